@@ -1,5 +1,5 @@
 -- A strict cast in an arena in whose place one is put that isn't strict.
-use Rattle.std.proofs.Common.{◌≡◌, ◌≢◌, ℕ, ◌<◌, ◌≤◌, true, false, cond, not, List, [], ◌∷◌, length, map, set, slice_get, Some, Result, Ok, refl, sym, ap, ◌∙◌, subst, arith, inl, ⊎_elim}
+use Rattle.std.proofs.Common.{◌≡◌, ◌≢◌, ℕ, ◌<◌, ◌≤◌, true, false, cond, not, List, [], ◌∷◌, length, map, set, slice_get, Some, Result, Ok, Err, refl, sym, ap, ◌∙◌, subst, arith, inl, ⊎_elim}
 use Rattle.std.specs.List.{AllByRecursion}
 use Rattle.std.proofs.Math.ListN.{length-set}
 use Rattle.plan_types.specs.Types.{Ty, Untyped, is_known, same_type}
@@ -18,7 +18,7 @@ use Rattle.plan_arena.specs.declared.aexpr.AExpr.{AExpr}
 use Rattle.plan_arena.specs.Denotation.{Denotes}
 use Rattle.plan_arena.specs.Items.{HoldsExpression, expression_layer}
 use Rattle.plan_arena.specs.Layers.{inputs_of, layer, op_of, shape_of}
-use Rattle.plan_arena.proofs.DenotationLemmas.{kept_below, replaced, same_or_other}
+use Rattle.plan_arena.proofs.DenotationLemmas.{denotes_one, kept_below, replaced, same_or_other}
 use Rattle.plan_arena.proofs.ItemLemmas.{any_node, expression_elsewhere, expression_got, expression_laws, got_held, expression_written, held_top, one_child, within}
 use Rattle.plan_infer.specs.declared.type_table.Inferred.{Inferred}
 use Rattle.plan_infer.specs.declared.type_table.TypeTable.{TypeTable}
@@ -155,6 +155,11 @@ module _ {registry : Registry} {schema : Columns} {old : List AExpr} {table : Ty
           same = still_same registry schema cast.target cast.own cast.same (cast_known registry schema cast.target cast.own Strict c.operand before c.typed is).0 c.operand c.typed;
           relates = relates c.operand c.typed;
         };
+        ill_typed = λ kind e.
+            let k = known_typed registry schema old table cast.right at cast.kept in
+            let one = denotes_one (shape_of (map expression_layer old)) (HoldsExpression old) (expression_laws old) at k.tree t (any_node 0 old at k.tree k.denotes) d in
+            let differs : Ok k.typed ≡ Err kind = sym k.is ∙ ap (typing registry schema) (one ∙ c.whole) ∙ e in
+            cc;
         known = λ after is. let k = cast_known registry schema cast.target cast.own NonStrict c.operand after c.typed is in ap is_known k.1 ∙ k.0;
         falls = omega (arith, one);
         fresh = λ n u le reached du. absurd (none_added n le (within new n u du));

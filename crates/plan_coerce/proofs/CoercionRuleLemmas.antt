@@ -1,5 +1,5 @@
 -- The rule of coercion: nodes that are strict, and what is put in place of others.
-use Rattle.std.proofs.Common.{◌≡◌, ◌≢◌, ◌&&◌, not, ℕ, zero, suc, None, is_some, ℤ, ◌<◌, ◌≤◌, Bool, true, false, cond, List, [], ◌∷◌, length, map, set, Option, Some, Ok, slice_get, slice_index_or, refl, sym, ap, ◌∙◌, subst, arith, zero-le, inl, ⊎_elim}
+use Rattle.std.proofs.Common.{◌≡◌, ◌≢◌, ◌&&◌, not, ℕ, zero, suc, None, is_some, ℤ, ◌<◌, ◌≤◌, Bool, true, false, cond, List, [], ◌∷◌, length, map, set, Option, Some, Ok, Err, slice_get, slice_index_or, refl, sym, ap, ◌∙◌, subst, arith, zero-le, inl, ⊎_elim}
 use Rattle.std.specs.List.{AllByRecursion}
 use Rattle.std.specs.Prelude.{MatchOption}
 use Rattle.std.proofs.Math.ListN.{length-set}
@@ -8,6 +8,7 @@ use Rattle.plan_types.specs.Types.{Ty, Untyped, ty, is_known, same_type}
 use Rattle.plan_types.specs.declared.dtype.DataType.{DataType}
 use Rattle.plan_types.specs.Values.{Val, IntValue}
 use Rattle.plan_types.specs.CommonTypes.{type_alone}
+use Rattle.plan_types.specs.declared.error.ErrorKind.{ErrorKind}
 use Rattle.plan_types.specs.Schemas.{Name, Columns}
 use Rattle.plan_types.proofs.ListLemmas.{slice_get-append}
 use Rattle.plan_dsl.specs.Registry.{Registry}
@@ -211,6 +212,7 @@ module _ (registry : Registry) (schema : Columns) (old new : List AExpr) (table 
         tree = settled t;
         denotes = settles (record { many = own.many; is = number_typed });
         like = λ typed h. record { same = same_itself registry schema (settled t); relates = refl };
+        ill_typed = λ kind h. let differs : Ok (typed_of own) ≡ Err kind = sym typed ∙ h in cc;
         known = λ typed h. settled_known registry schema t typed h;
         falls = falls_to registry schema (settled t) t s.strict loose;
         fresh = λ n u le reached du.
@@ -235,6 +237,7 @@ module _ (registry : Registry) (schema : Columns) (old new : List AExpr) (table 
         tree = node r.op r.children;
         denotes = any_node 0 (set new at item) at (node r.op r.children) (r.inputs, r.held, r.denotes);
         like = λ other h. subst (λ w. IsLike (HasSameCasts registry schema) registry schema w (node r.op r.children)) (sym stays) (record { same = r.same.same; relates = r.same.casts });
+        ill_typed = λ kind h. let differs : Ok (typed_of own) ≡ Err kind = sym typed ∙ h in cc;
         known = λ other h.
             let is = ok_same (typing registry schema (node r.op r.children)) other (typed_of own) h (r.same.same.typing ∙ typed) in
             ap (λ (x : Typed). is_known x.type) is ∙ known;

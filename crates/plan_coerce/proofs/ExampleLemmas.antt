@@ -141,6 +141,7 @@ sum_replaced = record {
   tree = strict_sum;
   denotes = strict_denotes;
   like = λ typed is. record { same = record { typing = refl; name = refl; meaning = λ rows. refl }; relates = refl };
+  ill_typed = λ kind is. let differs : Ok (of_type int32) ≡ Err kind = is in cc;
   known = λ typed is. known_one _ typed (record { typed = of_type int32; is = refl; known = refl }) is;
   falls = omega arith;
   fresh = λ n t le r d. new_measured n t le d;

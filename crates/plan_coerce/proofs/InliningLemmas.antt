@@ -6,21 +6,22 @@ use Rattle.plan_types.specs.Types.{Ty, Truth, is_known, same_type}
 use Rattle.plan_types.specs.TypeLaws.{same_type_exact, same_type_own}
 use Rattle.plan_types.specs.Casts.{Converted, Gives, Fails, can_cast, cast}
 use Rattle.plan_types.specs.CommonTypes.{type_alone}
-use Rattle.plan_types.specs.Frames.{Frame}
+use Rattle.plan_types.specs.Frames.{Frame, Row}
 use Rattle.plan_types.specs.Outcomes.{Outcome, Done, Fault, Stuck, then_do}
 use Rattle.plan_types.specs.Schemas.{Columns}
 use Rattle.plan_types.specs.Values.{Val, NullValue}
 use Rattle.plan_types.specs.declared.dtype.CastOptions.{CastOptions}
 use Rattle.plan_types.specs.declared.dtype.CastOptions.TheVariants.{NonStrict}
+use Rattle.plan_types.specs.declared.error.ErrorKind.{ErrorKind}
 use Rattle.plan_types.specs.declared.error.ErrorKind.TheVariants.{InvalidOperation}
 use Rattle.plan_types.proofs.CastLemmas.{source_known}
 use Rattle.plan_types.proofs.CommonLemmas.{alone_itself}
 use Rattle.plan_dsl.specs.declared.operator.Operator.{Operator}
 use Rattle.plan_dsl.specs.declared.operator.Operator.TheVariants.{LogicalAnd, LogicalOr}
 use Rattle.plan_dsl.specs.Aliases.{IsCore, are_core, is_core, is_core_op}
-use Rattle.plan_dsl.specs.Kernels.{Meaning, cast_column, cast_meaning, cast_values, given, kernel, value_before}
+use Rattle.plan_dsl.specs.Kernels.{Meaning, cast_column, cast_meaning, cast_values, given, kernel, stuck, value_before}
 use Rattle.plan_dsl.specs.Literals.{is_literal}
-use Rattle.plan_dsl.specs.Meaning.{meaning, applied, node_meaning, ruled_meaning}
+use Rattle.plan_dsl.specs.Meaning.{meaning, meaning_all, applied, node_meaning, ruled_meaning}
 use Rattle.plan_dsl.specs.OperatorTypes.{is_truth_or_null, pair_to, truth_types, with_types}
 use Rattle.plan_dsl.specs.Ops.{Op, LiteralOp, BinaryOp, CastOp, Expression}
 use Rattle.plan_dsl.specs.Registry.{Registry}
@@ -143,65 +144,64 @@ logical_truth registry schema operator typed ruling l h = cc
 
 -- ---- an expression without these casts says the same
 
-no_typings : (registry : Registry) (schema : Columns) (trees : Trees Op) → typing_all registry schema trees ≡ Ok [] → trees ≡ no_more
-no_typings registry schema no_more h = refl
-no_typings registry schema (more child rest) h =
-    by_children (λ ts. [] ≡ ts → more child rest ≡ no_more) _ _ [] h (λ t ts first others e. cc) refl
-
-literal_bare : (registry : Registry) (schema : Columns) (type : Ty) (value : Val) (below : List Typed) (ruling : Ruling) → rule registry schema (LiteralOp type value) below ≡ Ok ruling → below ≡ []
-literal_bare registry schema type value [] ruling h = refl
-literal_bare registry schema type value (t ∷ ts) ruling h = cc
-
 module _ (registry : Registry) (schema : Columns) where
-  -- the operand of a typed cast is typed
-  operand_typed : (target : Ty) (options : CastOptions) (x : Expression) (typed : Typed) → typing registry schema (node (CastOp target options) (more x no_more)) ≡ Ok typed → (own : Typed) × (typing registry schema x ≡ Ok own)
-  operand_typed target options x typed h =
-      elim (typing registry schema x) as (λ r. then_typed (typed_before r (Ok [])) (typing_rule registry schema (CastOp target options)) ≡ Ok typed → (own : Typed) × (r ≡ Ok own)) [ Ok own ↦ λ e. (own, refl) | Err kind ↦ λ e. cc ] h
+  -- what has no typing means nothing
+  untyped_stuck : (rows : List Row) (t : Expression) (kind : ErrorKind) → typing registry schema t ≡ Err kind → meaning registry (record { schema = schema; rows = rows }) t ≡ stuck
+  untyped_stuck rows (node op ts) kind h =
+      let frame : Frame = record { schema = schema; rows = rows } in
+      elim (typing_all registry schema ts) as (λ r. then_typed r (typing_rule registry schema op) ≡ Err kind → node_meaning registry frame op r (meaning_all registry frame ts) ≡ stuck) [
+        | Err k ↦ λ e. refl
+        | Ok typed ↦ λ e. elim (rule registry schema op typed) as (λ r. own_typed r ≡ Err kind → ruled_meaning registry frame op (types_of typed) r (meaning_all registry frame ts) ≡ stuck) [ Err k ↦ λ f. refl | Ok ruling ↦ λ f. cc ] e
+      ] h
 
-  module _ (target : Ty) (options : CastOptions) (typed : Typed) where
+  module _ (target : Ty) (options : CastOptions) where
     abbrev over : Expression → Expression
     over x = node (CastOp target options) (more x no_more)
 
-    of_literal : (from : Ty) (value : Val) (operands : Trees Op) → typing registry schema (over (node (LiteralOp from value) operands)) ≡ Ok typed → (found : Option Expression) → literal_cast from value target options ≡ found → IsSame registry schema (over (node (LiteralOp from value) operands)) (unwrap_or found (over (node (LiteralOp from value) operands)))
-    of_literal from value operands h None is = same_itself registry schema _
-    of_literal from value operands h (Some e) is =
+    -- a cast of what has no typing has none either
+    untyped_cast_same : (x : Expression) (kind : ErrorKind) → typing registry schema x ≡ Err kind → IsSame registry schema (over x) x
+    untyped_cast_same x kind h =
+        let none : typing registry schema (over x) ≡ Err kind = ap (λ r. then_typed (typed_before r (Ok [])) (typing_rule registry schema (CastOp target options))) h in
+        record { typing = h ∙ sym none; name = refl; meaning = λ rows. untyped_stuck rows x kind h ∙ sym (untyped_stuck rows (over x) kind none) }
+
+    of_literal : (from : Ty) (value : Val) (found : Option Expression) → literal_cast from value target options ≡ found → IsSame registry schema (over (node (LiteralOp from value) no_more)) (unwrap_or found (over (node (LiteralOp from value) no_more)))
+    of_literal from value None is = same_itself registry schema _
+    of_literal from value (Some e) is =
         let g = gives_literal from value target options e is in
-        let own = operand_typed target options (node (LiteralOp from value) operands) typed h in
-        let p = typed_parts registry schema (LiteralOp from value) operands own.0 own.1 in
-        let none = no_typings registry schema operands (p.children_typed ∙ ap Ok (literal_bare registry schema from value p.below p.ruling p.rules)) in
-        subst (λ ts. IsSame registry schema (over (node (LiteralOp from value) ts)) e) (sym none) (subst (IsSame registry schema (over (node (LiteralOp from value) no_more))) (sym g.is) (literal_same registry schema target options from value g.made g.literal g.casts g.gives g.fits))
+        subst (IsSame registry schema (over (node (LiteralOp from value) no_more))) (sym g.is) (literal_same registry schema target options from value g.made g.literal g.casts g.gives g.fits)
 
-    of_operator : (operator : Operator) (operands : Trees Op) → typing registry schema (over (node (BinaryOp operator) operands)) ≡ Ok typed → (found : Bool) → (is_logical operator && same_type Truth target) ≡ found → IsSame registry schema (over (node (BinaryOp operator) operands)) (unwrap_or (cond found (Some (node (BinaryOp operator) operands)) None) (over (node (BinaryOp operator) operands)))
-    of_operator operator operands h false is = same_itself registry schema _
-    of_operator operator operands h true is =
+    of_typed_operator : (operator : Operator) (operands : Trees Op) → is_logical operator ≡ true → same_type Truth target ≡ true → (own : Typed) → typing registry schema (node (BinaryOp operator) operands) ≡ Ok own → IsSame registry schema (over (node (BinaryOp operator) operands)) (node (BinaryOp operator) operands)
+    of_typed_operator operator operands logical truth own h =
+        let p = typed_parts registry schema (BinaryOp operator) operands own h in
+        let same : Truth ≡ target = same_type_exact Truth target truth in
+        let type : own.type ≡ target = ap (λ (t : Typed). t.type) (sym p.is) ∙ logical_truth registry schema operator p.below p.ruling logical p.rules ∙ same in
+        own_cast_same registry schema target options own.many (node (BinaryOp operator) operands) (subst (λ t. can_cast t t ≡ true) same refl) (h ∙ ap (λ t. Ok (record { type = t; many = own.many })) type)
+
+    of_operator : (operator : Operator) (operands : Trees Op) (found : Bool) → (is_logical operator && same_type Truth target) ≡ found → IsSame registry schema (over (node (BinaryOp operator) operands)) (unwrap_or (cond found (Some (node (BinaryOp operator) operands)) None) (over (node (BinaryOp operator) operands)))
+    of_operator operator operands false is = same_itself registry schema _
+    of_operator operator operands true is =
         let parts = and_parts (is_logical operator) (same_type Truth target) is in
-        let own = operand_typed target options (node (BinaryOp operator) operands) typed h in
-        let p = typed_parts registry schema (BinaryOp operator) operands own.0 own.1 in
-        let same : Truth ≡ target = same_type_exact Truth target parts.1 in
-        let type : own.0.type ≡ target = ap (λ (t : Typed). t.type) (sym p.is) ∙ logical_truth registry schema operator p.below p.ruling parts.0 p.rules ∙ same in
-        own_cast_same registry schema target options own.0.many (node (BinaryOp operator) operands) (subst (λ t. can_cast t t ≡ true) same refl) (own.1 ∙ ap (λ t. Ok (record { type = t; many = own.0.many })) type)
+        let x = node (BinaryOp operator) operands in
+        elim (typing registry schema x) as (λ r. typing registry schema x ≡ r → IsSame registry schema (over x) x) [ Ok own ↦ λ h. of_typed_operator operator operands parts.0 parts.1 own h | Err kind ↦ λ h. untyped_cast_same x kind h ] refl
 
-    pub cast_in_place : (x : Expression) → typing registry schema (over x) ≡ Ok typed → IsSame registry schema (over x) (unwrap_or (cast_of target options x) (over x))
-    cast_in_place (node (LiteralOp from value) operands) h = of_literal from value operands h (literal_cast from value target options) refl
-    cast_in_place (node (BinaryOp operator) operands) h = of_operator operator operands h (is_logical operator && same_type Truth target) refl
-    cast_in_place (node op operands) h = same_itself registry schema _
+    pub cast_in_place : (x : Expression) → IsSame registry schema (over x) (unwrap_or (cast_of target options x) (over x))
+    cast_in_place (node (LiteralOp from value) no_more) = of_literal from value (literal_cast from value target options) refl
+    cast_in_place (node (BinaryOp operator) operands) = of_operator operator operands (is_logical operator && same_type Truth target) refl
+    cast_in_place (node op operands) = same_itself registry schema _
 
-  node_in_place : (op : Op) (ts : Trees Op) (typed : Typed) → typing registry schema (node op ts) ≡ Ok typed → IsSame registry schema (node op ts) (unwrap_or (in_place_of op ts) (node op ts))
-  node_in_place (CastOp target options) (more x no_more) typed h = cast_in_place target options typed x h
-  node_in_place op ts typed h = same_itself registry schema (node op ts)
+  node_in_place : (op : Op) (ts : Trees Op) → IsSame registry schema (node op ts) (unwrap_or (in_place_of op ts) (node op ts))
+  node_in_place (CastOp target options) (more x no_more) = cast_in_place target options x
+  node_in_place op ts = same_itself registry schema (node op ts)
 
   mutual
-    pub inlined_same : (tree : Expression) (typed : Typed) → typing registry schema tree ≡ Ok typed → IsSame registry schema tree (inlined tree)
-    inlined_same (node op ts) typed h =
-        let p = typed_parts registry schema op ts typed h in
-        let each = all_inlined_same ts p.below p.children_typed in
-        let mid = node_same registry schema op ts (all_inlined ts) each in
-        same_then registry schema (node op ts) (node op (all_inlined ts)) (inlined (node op ts)) mid (node_in_place op (all_inlined ts) typed (mid.typing ∙ h))
+    pub inlined_same : (tree : Expression) → IsSame registry schema tree (inlined tree)
+    inlined_same (node op ts) =
+        let mid = node_same registry schema op ts (all_inlined ts) (all_inlined_same ts) in
+        same_then registry schema (node op ts) (node op (all_inlined ts)) (inlined (node op ts)) mid (node_in_place op (all_inlined ts))
 
-    pub all_inlined_same : (trees : Trees Op) (typed : List Typed) → typing_all registry schema trees ≡ Ok typed → AllRelated (IsSame registry schema) trees (all_inlined trees)
-    all_inlined_same no_more typed h = tt
-    all_inlined_same (more tree trees) typed h =
-        by_children (λ _. AllRelated (IsSame registry schema) (more tree trees) (all_inlined (more tree trees))) _ _ typed h (λ t ts first rest. (inlined_same tree t first, all_inlined_same trees ts rest))
+    pub all_inlined_same : (trees : Trees Op) → AllRelated (IsSame registry schema) trees (all_inlined trees)
+    all_inlined_same no_more = tt
+    all_inlined_same (more tree trees) = (inlined_same tree, all_inlined_same trees)
 
   -- what is strict stays so
   literal_strict : (target : Ty) (made : Val) → is_known target ≡ true → is_literal target made ≡ true → IsStrict registry schema (node (LiteralOp target made) no_more)
@@ -210,7 +210,7 @@ module _ (registry : Registry) (schema : Columns) where
       and_from (is_strict_over registry schema (LiteralOp target made) (Ok [])) true (ap (is_strict_rule []) ruled ∙ known) refl
 
   cast_strict : (target : Ty) (options : CastOptions) (x : Expression) → IsStrict registry schema x → (e : Expression) → cast_of target options x ≡ Some e → IsStrict registry schema e
-  cast_strict target options (node (LiteralOp from value) operands) strict e h =
+  cast_strict target options (node (LiteralOp from value) no_more) strict e h =
       let g = gives_literal from value target options e h in
       subst (IsStrict registry schema) (sym g.is) (literal_strict target g.made (target_known from target g.casts) g.fits)
   cast_strict target options (node (BinaryOp operator) operands) strict e h =
@@ -229,7 +229,7 @@ module _ (registry : Registry) (schema : Columns) where
         let parts = and_parts (is_strict_over registry schema op (typing_all registry schema ts)) (are_strict registry schema ts) strict in
         let s = strict_parts registry schema op ts parts.0 in
         let below = all_inlined_strict ts parts.1 in
-        let same = typings_same registry schema ts (all_inlined ts) (all_inlined_same ts s.typed s.types) in
+        let same = typings_same registry schema ts (all_inlined ts) (all_inlined_same ts) in
         let over = ap (is_strict_over registry schema op) same ∙ parts.0 in
         placed_strict op (all_inlined ts) (and_from (is_strict_over registry schema op (typing_all registry schema (all_inlined ts))) (are_strict registry schema (all_inlined ts)) over below) below (in_place_of op (all_inlined ts)) refl
 
@@ -242,7 +242,7 @@ module _ (registry : Registry) (schema : Columns) where
 -- ---- casts that go leave no alias behind
 
 cast_core : (target : Ty) (options : CastOptions) (x : Expression) → IsCore x → (e : Expression) → cast_of target options x ≡ Some e → IsCore e
-cast_core target options (node (LiteralOp from value) operands) core e h =
+cast_core target options (node (LiteralOp from value) no_more) core e h =
     subst IsCore (sym (gives_literal from value target options e h).is) refl
 cast_core target options (node (BinaryOp operator) operands) core e h =
     subst IsCore (sym (some_where (is_logical operator && same_type Truth target) (node (BinaryOp operator) operands) e h).1) core

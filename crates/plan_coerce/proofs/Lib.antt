@@ -1,3 +1,4 @@
+pub mod AnyRootLemmas
 pub mod BesideLemmas
 pub mod CoercedLemmas
 pub mod CoercionLemmas
@@ -20,5 +21,6 @@ pub mod StackLemmas
 pub mod ToldLemmas
 pub mod TurnLemmas
 pub mod TypedNodeLemmas
+pub mod TypedRootLemmas
 pub mod UntoldLemmas
 pub mod WrittenOutLemmas

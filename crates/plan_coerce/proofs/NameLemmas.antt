@@ -104,7 +104,7 @@ module _ (registry : Registry) (schema : Columns) where
 -- ---- casts that go
 
 cast_label : (target : Ty) (options : CastOptions) (x e : Expression) → cast_of target options x ≡ Some e → label_of e ≡ label_of x
-cast_label target options (node (LiteralOp from value) operands) e h = ap label_of (gives_literal from value target options e h).is
+cast_label target options (node (LiteralOp from value) no_more) e h = ap label_of (gives_literal from value target options e h).is
 cast_label target options (node (BinaryOp operator) operands) e h =
     ap label_of (some_where (is_logical operator && same_type Truth target) (node (BinaryOp operator) operands) e h).1
 cast_label target options (node op operands) e h = cc
@@ -123,7 +123,7 @@ mutual
   inlined_labels (more tree trees) = ap (λ x. x ∷ fold_all op_label (all_inlined trees)) (inlined_label tree) ∙ ap (λ l. label_of tree ∷ l) (inlined_labels trees)
 
 cast_names : (target : Ty) (options : CastOptions) (x : Expression) → NamesOperands x → (e : Expression) → cast_of target options x ≡ Some e → NamesOperands e
-cast_names target options (node (LiteralOp from value) operands) names e h = subst NamesOperands (sym (gives_literal from value target options e h).is) (tt, tt)
+cast_names target options (node (LiteralOp from value) no_more) names e h = subst NamesOperands (sym (gives_literal from value target options e h).is) (tt, tt)
 cast_names target options (node (BinaryOp operator) operands) names e h =
     subst NamesOperands (sym (some_where (is_logical operator && same_type Truth target) (node (BinaryOp operator) operands) e h).1) names
 cast_names target options (node op operands) names e h = cc

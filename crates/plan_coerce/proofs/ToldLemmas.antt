@@ -51,7 +51,7 @@ untold target options (node op operands) h = refl
 
 -- what stands for a cast is one of these
 given_told : (target : Ty) (options : CastOptions) (x e : Expression) → cast_of target options x ≡ Some e → is_told e ≡ true
-given_told target options (node (LiteralOp from value) operands) e h = ap is_told (gives_literal from value target options e h).is
+given_told target options (node (LiteralOp from value) no_more) e h = ap is_told (gives_literal from value target options e h).is
 given_told target options (node (BinaryOp operator) operands) e h =
     elim (is_logical operator) as (λ b. is_logical operator ≡ b → cond (b && same_type Truth target) (Some (node (BinaryOp operator) operands)) None ≡ Some e → is_told e ≡ true) [
       | true ↦ λ l f. elim (same_type Truth target) as (λ s. cond s (Some (node (BinaryOp operator) operands)) None ≡ Some e → is_told e ≡ true) [ true ↦ λ g. let is : node (BinaryOp operator) operands ≡ e = cc in ap is_told (sym is) ∙ l | false ↦ λ g. cc ] f
@@ -105,18 +105,7 @@ module _ (items : List AExpr) where
   leads_near at n (node op no_more) m u near l = subst (Near items (at ∷ [])) l.0 near
   leads_near at n (node op (more x (more y ts))) m u near l = subst (Near items (at ∷ [])) l.0 near
 
-  -- what it denotes is typed, and no deeper
-  leads_typed : (registry : Registry) (schema : Columns) (n : ℕ) (t : Expression) (m : ℕ) (u : Expression) → LeadsTo items n t m u → (typed : Typed) → typing registry schema t ≡ Ok typed → (own : Typed) × (typing registry schema u ≡ Ok own)
-  leads_typed registry schema n (node op (more x no_more)) m u l typed h =
-      ⊎_elim
-      (λ e. (typed, ap (typing registry schema) (sym e.1) ∙ h))
-      (λ k.
-      let p = typed_parts registry schema op (more x no_more) typed h in
-      by_children (λ _. (own : Typed) × (typing registry schema u ≡ Ok own)) _ _ p.below p.children_typed (λ t ts first rest. leads_typed registry schema k.0 x m u k.2 t first))
-      l
-  leads_typed registry schema n (node op no_more) m u l typed h = (typed, ap (typing registry schema) (sym l.1) ∙ h)
-  leads_typed registry schema n (node op (more x (more y ts))) m u l typed h = (typed, ap (typing registry schema) (sym l.1) ∙ h)
-
+  -- what it denotes is no deeper
   leads_depth : (n : ℕ) (t : Expression) (m : ℕ) (u : Expression) → LeadsTo items n t m u → tree_depth u ≤ tree_depth t
   leads_depth n (node op (more x no_more)) m u l =
       ⊎_elim
@@ -195,11 +184,12 @@ module _ (registry : Registry) (schema : Columns) (items : List AExpr) (at : ℕ
   pub put_closed : IsClosed items (at ∷ []) (set items at item)
   put_closed = closed_put items (at ∷ []) items at item here near (closed_start items (at ∷ []))
 
-  pub put_replaces : (tree : Expression) → Denotes (HoldsExpression (set items at item)) at tree → inlined tree ≡ inlined (node op ts) → is_told (inlined (node op ts)) ≡ true → stays tree ≡ true → ((typed : Typed) → typing registry schema tree ≡ Ok typed → is_known typed.type ≡ true) → ((typed : Typed) → typing registry schema (node op ts) ≡ Ok typed → IsSame registry schema (node op ts) tree) → IsReplacement HasSameInlined until_stays registry schema items (set items at item) at (node op ts)
+  pub put_replaces : (tree : Expression) → Denotes (HoldsExpression (set items at item)) at tree → inlined tree ≡ inlined (node op ts) → is_told (inlined (node op ts)) ≡ true → stays tree ≡ true → ((typed : Typed) → typing registry schema tree ≡ Ok typed → is_known typed.type ≡ true) → IsSame registry schema (node op ts) tree → IsReplacement HasSameInlined until_stays registry schema items (set items at item) at (node op ts)
   put_replaces tree there same told still known says = record {
     tree = tree;
     denotes = there;
-    like = λ typed h. subst (λ t. IsLike HasSameInlined registry schema t tree) (sym (cast_settled op ts cast)) (record { same = says typed h; relates = same });
+    like = λ typed h. subst (λ t. IsLike HasSameInlined registry schema t tree) (sym (cast_settled op ts cast)) (record { same = says; relates = same });
+    ill_typed = λ kind h. record { same = says; relates = same };
     known = known;
     falls =
         let none = stayed tree still in
@@ -218,7 +208,7 @@ same_types_of : (a b : Ty) (v w : Val) → node (LiteralOp a v) no_more ≡ node
 same_types_of a b v w e = cc
 
 top_known : (target : Ty) (options : CastOptions) (x : Expression) (type : Ty) (value : Val) → cast_of target options x ≡ Some (node (LiteralOp type value) no_more) → is_known type ≡ true
-top_known target options (node (LiteralOp from v) operands) type value h =
+top_known target options (node (LiteralOp from v) no_more) type value h =
     let g = gives_literal from v target options (node (LiteralOp type value) no_more) h in
     ap is_known (same_types_of type target value g.made g.is) ∙ target_known from target g.casts
 top_known target options (node (BinaryOp operator) operands) type value h =
@@ -246,7 +236,7 @@ module _ (registry : Registry) (schema : Columns) (items : List AExpr) (at : ℕ
       ([], expression_written items at (LiteralItem value) (within items at (node op ts) d), tt)
       (sym is) (ap is_told is) refl
       (bare_known registry schema (literal_type value) (literal_value value) (literal_known op (all_inlined ts) (literal_type value) (literal_value value) place))
-      (λ typed h. subst (IsSame registry schema (node op ts)) is (inlined_same registry schema (node op ts) typed h))
+      (subst (IsSame registry schema (node op ts)) is (inlined_same registry schema (node op ts)))
 
 -- ---- what stands under a cast of an operator of truth values
 
@@ -295,10 +285,7 @@ module _ (items : List AExpr) (at : ℕ) (op : Op) (ts : Trees Op) (d : Denotes 
       (l.denotes.0, item_held (BinaryOp l.operator) l.denotes.0 l.denotes.1, below)
       (sym l.is) (ap is_told l.is ∙ l.logical) refl
       (operator_known registry schema l.operator l.operands l.logical)
-      (λ typed h.
-      let own = leads_typed items registry schema at (node op ts) m u l.leads typed h in
-      let one = subst (IsSame registry schema (node op ts)) l.is (inlined_same registry schema (node op ts) typed h) in
-      same_then registry schema (node op ts) (inlined u) u one (turned registry schema u (inlined u) (inlined_same registry schema u own.0 own.1)))
+      (same_then registry schema (node op ts) (inlined u) u (subst (IsSame registry schema (node op ts)) l.is (inlined_same registry schema (node op ts))) (turned registry schema u (inlined u) (inlined_same registry schema u)))
 
   placed_nodes : (below : List ℕ) → (Among below at → ⊥) → (u : Expression) (ms : List ℕ) → HasNodes items m u ms → AreOnce ms → ((j : ℕ) → Among ms j → Among below j) → (w : Expression) × (ns : List ℕ) × HasNodes (set items at item) at w ns × AreOnce ns
   placed_nodes below apart (node o us) ms h once within_below =

@@ -32,7 +32,7 @@ known_or_number : (registry : Registry) (schema : Columns) (tree : Expression) (
 known_or_number registry schema tree (Untyped number) many h = inr (number, refl)
 known_or_number registry schema tree type many h = inl (typed_known registry schema tree type many h (λ number e. cc))
 
-one_at : (items : List AExpr) (n : ℕ) (t u : Expression) → Denotes (HoldsExpression items) n t → Denotes (HoldsExpression items) n u → t ≡ u
+pub one_at : (items : List AExpr) (n : ℕ) (t u : Expression) → Denotes (HoldsExpression items) n t → Denotes (HoldsExpression items) n u → t ≡ u
 one_at items = denotes_one (shape_of (map expression_layer items)) (HoldsExpression items) (expression_laws items)
 
 -- ---- what a typed node leads to is typed

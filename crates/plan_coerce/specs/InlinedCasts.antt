@@ -45,7 +45,7 @@ is_logical operator = false
 
 -- what stands for a cast of the expression, if not the cast
 abbrev pub cast_of_top : Ty → CastOptions → Op → Trees Op → Option Expression
-cast_of_top target options (LiteralOp from value) operands = literal_cast from value target options
+cast_of_top target options (LiteralOp from value) no_more = literal_cast from value target options
 cast_of_top target options (BinaryOp operator) operands =
     if is_logical operator && same_type Truth target then Some (node (BinaryOp operator) operands) else None
 cast_of_top target options op operands = None

@@ -123,6 +123,10 @@ pub record EndsSettled (settled : Expression → Bool) (related : Expression →
   pub each : DenotesSettled settled new n
   pub number : (number : ℤ) (many : Bool) (t : Expression) → Denotes (HoldsExpression old) n t → typing registry schema t ≡ Ok (record { type = Untyped number; many = many }) → EndsTyped settled related registry schema new n t
 
+-- what the node denotes has a typing
+abbrev pub HasTyping : Registry → Columns → List AExpr → ℕ → Type 0
+HasTyping registry schema items n = (t : Expression) → Denotes (HoldsExpression items) n t → (typed : Typed) × (typing registry schema t ≡ Ok typed)
+
 -- the nodes denote finite trees
 abbrev pub AreTrees : List AExpr → List ℕ → Type 0
 AreTrees items ns = AllByRecursion (DenotesTree (HoldsExpression items)) ns

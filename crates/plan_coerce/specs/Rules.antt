@@ -71,13 +71,14 @@ SettlesNoNumber settled registry schema =
     (op : Op) (children : Trees Op) → settled (node op children) ≡ true → AllKnown registry schema children
 
 -- What is put in place of a node that denoted the tree: the arena with it denotes a finite tree there, which has the type,
--- name and meaning of the old one, is related to it, and is no number without a type. A number without a type that was
--- there counts as one of the type that it has alone. The measure falls, that of each new node below is smaller too, and
--- each number without a type below was there before.
+-- name and meaning of the old one, is related to it, and is no number without a type. Where the old one has no typing, the
+-- new one has none by the same kind. A number without a type that was there counts as one of the type that it has alone. The
+-- measure falls, that of each new node below is smaller too, and each number without a type below was there before.
 pub record IsReplacement (related : Expression → Expression → Type 0) (measure : Expression → ℕ) (registry : Registry) (schema : Columns) (old new : List AExpr) (at : ℕ) (before : Expression) : Type 0 where
   pub tree : Expression
   pub denotes : Denotes (HoldsExpression new) at tree
   pub like : (typed : Typed) → typing registry schema before ≡ Ok typed → IsLike related registry schema (settled before) tree
+  pub ill_typed : (kind : ErrorKind) → typing registry schema before ≡ Err kind → IsLike related registry schema before tree
   pub known : (typed : Typed) → typing registry schema tree ≡ Ok typed → is_known typed.type ≡ true
   pub falls : measure tree < measure before
   pub fresh : (n : ℕ) (t : Expression) → length old ≤ n → IsReached new (at ∷ []) n → Denotes (HoldsExpression new) n t → measure t < measure before

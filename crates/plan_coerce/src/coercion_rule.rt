@@ -110,7 +110,7 @@ fn is_settled(node: Node, types: &TypeTable) -> bool
 }
 
 // Keeps what is inferred of a node, unless something is kept of it.
-fn infer_once<M: Ledger>(
+pub(crate) fn infer_once<M: Ledger>(
     node: Node,
     schema: &Schema,
     arena: &Arena<AExpr>,

@@ -11,10 +11,12 @@ ghost use Rattle.plan_arena.specs.Denotation.{Denotes, DenotesTree};
 ghost use Rattle.plan_arena.specs.Items.{Grows, HoldsExpression, expression_layer, named_node, numbers};
 ghost use Rattle.plan_arena.specs.Layers.{inputs_of};
 ghost use Rattle.plan_infer.specs.KeptTypes.{IsRight};
-ghost use Rattle.plan_coerce.specs.Optimizer.{AreApart, AreRoots, AreTrees, AreTypedRoots, DenotesSettled, EndsSettled, IsCoercionRefusal, IsPlanTurn, ReachesNear, StaysApart, StaysFinite, StaysLike, StaysLikeBeside, StaysLikeTyped, StaysOver, TypesNumber, all_with_inputs, roots_of, stacked, with_inputs};
+ghost use Rattle.plan_coerce.specs.Optimizer.{AreApart, AreRoots, AreTrees, AreTypedRoots, DenotesSettled, EndsSettled, HasTyping, IsCoercionRefusal, IsPlanTurn, ReachesNear, StaysApart, StaysFinite, StaysLike, StaysLikeBeside, StaysLikeTyped, StaysOver, TypesNumber, all_with_inputs, roots_of, stacked, with_inputs};
+ghost use Rattle.plan_coerce.specs.Reaching.{Among};
 ghost use Rattle.plan_coerce.specs.Rules.{HasAcceptedInputs, KeepsNumber, RefusesPredicate, SettlesNoNumber, StandsOver};
 ghost use Rattle.plan_coerce.specs.Turns.{IsStopped, IsTurn};
 
+use crate::coercion_rule::infer_once;
 use crate::rule::OptimizationRule;
 use plan_arena::aexpr::{AExpr, Nodes};
 use plan_arena::arena::{Arena, Node};
@@ -158,7 +160,8 @@ impl ConversionOptimizer {
 
     /// Goes from the stacked roots on over what they reach, a node before its inputs: what the rule answers for a node
     /// is put in its place, and the rule is asked again; where it answers none, the inputs are next. The types that are
-    /// kept are those over a frame of the schema. Afterwards nothing is stacked. `steps` counts each visit of a node, and
+    /// kept are those over a frame of the schema. A root without a typing is refused by its kind, whatever the rule says of
+    /// it. Afterwards nothing is stacked. `steps` counts each visit of a node, and
     /// each time that a node is replaced.
     pub fn coerce_expressions<R: OptimizationRule, M: Ledger, L: Ledger>(
         &mut self,
@@ -174,7 +177,8 @@ impl ConversionOptimizer {
         requires right { IsRight (registry udfs.now) (columns schema.now) expr_arena.old types.old }
         ensures typed { StaysLikeTyped (R.settled rule.now (registry udfs.now) (columns schema.now)) (R.related rule.now (registry udfs.now) (columns schema.now)) (R.turns rule.now) (registry udfs.now) (columns schema.now) expr_arena.old expr_arena.new (roots_of self.old) }
         ensures like { AreTypedRoots (R.settled rule.now (registry udfs.now) (columns schema.now)) (registry udfs.now) (columns schema.now) expr_arena.old (roots_of self.old) → StaysLike (R.related rule.now (registry udfs.now) (columns schema.now)) (registry udfs.now) (columns schema.now) expr_arena.old expr_arena.new }
-        ensures settled { OnOk result (AreTypedRoots (R.settled rule.now (registry udfs.now) (columns schema.now)) (registry udfs.now) (columns schema.now) expr_arena.old (roots_of self.old) → AllByRecursion (DenotesSettled (R.settled rule.now (registry udfs.now) (columns schema.now)) expr_arena.new) (roots_of self.old)) }
+        ensures roots_typed { OnOk result (AllByRecursion (HasTyping (registry udfs.now) (columns schema.now) expr_arena.old) (roots_of self.old)) }
+        ensures settled { OnOk result (AllByRecursion (DenotesSettled (R.settled rule.now (registry udfs.now) (columns schema.now)) expr_arena.new) (roots_of self.old)) }
         ensures alone { OnOk result (TypesNumber (R.settled rule.now (registry udfs.now) (columns schema.now)) (R.related rule.now (registry udfs.now) (columns schema.now)) (registry udfs.now) (columns schema.now) expr_arena.old expr_arena.new (roots_of self.old)) }
         ensures beside { (n : ℕ) → R.turns rule.now ≡ Some n → SettlesNoNumber (R.settled rule.now (registry udfs.now) (columns schema.now)) (registry udfs.now) (columns schema.now) → AreRoots (R.settled rule.now (registry udfs.now) (columns schema.now)) (registry udfs.now) (columns schema.now) expr_arena.old (roots_of self.old) →
             StaysLikeBeside (R.related rule.now (registry udfs.now) (columns schema.now)) (registry udfs.now) (columns schema.now) expr_arena.old expr_arena.new (roots_of self.old) }
@@ -226,7 +230,8 @@ impl ConversionOptimizer {
         requires right { IsRight (registry udfs.now) (columns schema.now) expr_arena.old types.old }
         ensures typed { StaysLikeTyped (R.settled rule.now (registry udfs.now) (columns schema.now)) (R.related rule.now (registry udfs.now) (columns schema.now)) (R.turns rule.now) (registry udfs.now) (columns schema.now) expr_arena.old expr_arena.new (roots_of self.old) }
         ensures like { AreTypedRoots (R.settled rule.now (registry udfs.now) (columns schema.now)) (registry udfs.now) (columns schema.now) expr_arena.old (roots_of self.old) → StaysLike (R.related rule.now (registry udfs.now) (columns schema.now)) (registry udfs.now) (columns schema.now) expr_arena.old expr_arena.new }
-        ensures settled { OnOk result (AreTypedRoots (R.settled rule.now (registry udfs.now) (columns schema.now)) (registry udfs.now) (columns schema.now) expr_arena.old (roots_of self.old) → AllByRecursion (DenotesSettled (R.settled rule.now (registry udfs.now) (columns schema.now)) expr_arena.new) (roots_of self.old)) }
+        ensures roots_typed { OnOk result (AllByRecursion (HasTyping (registry udfs.now) (columns schema.now) expr_arena.old) (roots_of self.old)) }
+        ensures settled { OnOk result (AllByRecursion (DenotesSettled (R.settled rule.now (registry udfs.now) (columns schema.now)) expr_arena.new) (roots_of self.old)) }
         ensures alone { OnOk result (TypesNumber (R.settled rule.now (registry udfs.now) (columns schema.now)) (R.related rule.now (registry udfs.now) (columns schema.now)) (registry udfs.now) (columns schema.now) expr_arena.old expr_arena.new (roots_of self.old)) }
         ensures beside { (n : ℕ) → R.turns rule.now ≡ Some n → SettlesNoNumber (R.settled rule.now (registry udfs.now) (columns schema.now)) (registry udfs.now) (columns schema.now) → AreRoots (R.settled rule.now (registry udfs.now) (columns schema.now)) (registry udfs.now) (columns schema.now) expr_arena.old (roots_of self.old) →
             StaysLikeBeside (R.related rule.now (registry udfs.now) (columns schema.now)) (registry udfs.now) (columns schema.now) expr_arena.old expr_arena.new (roots_of self.old) }
@@ -298,7 +303,29 @@ fn place_plan<R: OptimizationRule, M: Ledger>(
     }
 }
 
-// Goes over what the roots on the stack reach. After a refusal some may be left there.
+// Types each of the nodes.
+fn type_nodes<M: Ledger>(
+    nodes: &[Node],
+    schema: &Schema,
+    arena: &Arena<AExpr>,
+    udfs: &Udfs,
+    types: &mut TypeTable,
+    typings: &mut Steps<M>,
+) -> Result<(), PlanError>
+    requires trees { AreTrees arena.now (numbers nodes.now) }
+    requires right { IsRight (registry udfs.now) (columns schema.now) arena.now types.old }
+    ensures ok { OnOk result (AllByRecursion (HasTyping (registry udfs.now) (columns schema.now) arena.now) (numbers nodes.now)) }
+    ensures right { IsRight (registry udfs.now) (columns schema.now) arena.now types.new }
+    ensures err { IfErr result (λ error. (n : ℕ) × Among (numbers nodes.now) n × ((t : Expression) → Denotes (HoldsExpression arena.now) n t →
+        IsRefusal (typing (registry udfs.now) (columns schema.now) t) error)) }
+{
+    for node in nodes {
+        infer_once(*node, schema, arena, udfs, types, typings)?;
+    }
+    Ok(())
+}
+
+// Goes over what the roots on the stack reach, where each has a typing. After a refusal some may be left there.
 fn coerce_stacked<R: OptimizationRule, M: Ledger, L: Ledger>(
     stack: &mut Nodes,
     rule: &R,
@@ -313,7 +340,8 @@ fn coerce_stacked<R: OptimizationRule, M: Ledger, L: Ledger>(
     requires right { IsRight (registry udfs.now) (columns schema.now) arena.old types.old }
     ensures typed { StaysLikeTyped (R.settled rule.now (registry udfs.now) (columns schema.now)) (R.related rule.now (registry udfs.now) (columns schema.now)) (R.turns rule.now) (registry udfs.now) (columns schema.now) arena.old arena.new (numbers stack.old.items) }
     ensures like { AreTypedRoots (R.settled rule.now (registry udfs.now) (columns schema.now)) (registry udfs.now) (columns schema.now) arena.old (numbers stack.old.items) → StaysLike (R.related rule.now (registry udfs.now) (columns schema.now)) (registry udfs.now) (columns schema.now) arena.old arena.new }
-    ensures settled { OnOk result (AreTypedRoots (R.settled rule.now (registry udfs.now) (columns schema.now)) (registry udfs.now) (columns schema.now) arena.old (numbers stack.old.items) → AllByRecursion (DenotesSettled (R.settled rule.now (registry udfs.now) (columns schema.now)) arena.new) (numbers stack.old.items)) }
+    ensures roots_typed { OnOk result (AllByRecursion (HasTyping (registry udfs.now) (columns schema.now) arena.old) (numbers stack.old.items)) }
+    ensures settled { OnOk result (AllByRecursion (DenotesSettled (R.settled rule.now (registry udfs.now) (columns schema.now)) arena.new) (numbers stack.old.items)) }
     ensures alone { OnOk result (TypesNumber (R.settled rule.now (registry udfs.now) (columns schema.now)) (R.related rule.now (registry udfs.now) (columns schema.now)) (registry udfs.now) (columns schema.now) arena.old arena.new (numbers stack.old.items)) }
     ensures beside { (n : ℕ) → R.turns rule.now ≡ Some n → SettlesNoNumber (R.settled rule.now (registry udfs.now) (columns schema.now)) (registry udfs.now) (columns schema.now) → AreRoots (R.settled rule.now (registry udfs.now) (columns schema.now)) (registry udfs.now) (columns schema.now) arena.old (numbers stack.old.items) →
         StaysLikeBeside (R.related rule.now (registry udfs.now) (columns schema.now)) (registry udfs.now) (columns schema.now) arena.old arena.new (numbers stack.old.items) }
@@ -328,6 +356,7 @@ fn coerce_stacked<R: OptimizationRule, M: Ledger, L: Ledger>(
         steps.new ≤ steps.old + (2 * n + 2) * length arena.new }
     ensures err { IfErr result (λ error. IsCoercionRefusal (R.settled rule.now (registry udfs.now) (columns schema.now)) (R.turns rule.now) (registry udfs.now) (columns schema.now) arena.old arena.new (numbers stack.old.items) error) }
 {
+    type_nodes(stack.as_slice(), schema, arena, udfs, types, typings)?;
     // A finite tree has no end of turns, but no stack lives to see so many.
     for _turn in 0..u64::MAX {
         let node = match stack.pop() {

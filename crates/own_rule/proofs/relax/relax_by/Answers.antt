@@ -16,7 +16,7 @@ pub returns-clause-relaxed : goal.returns-clause-relaxed
 returns-clause-relaxed g c =
     let done = c.coerce_expressions.ensures in
     let root = typed_root c.requires.right c.requires.kept c.in_ok-optimizer.ensures.ok in
-    on_ok_weaker c.coerce_expressions.result (λ settled. relaxed_roots c.requires.right c.requires.kept c.in_ok-optimizer.ensures.ok (done.like root) (settled root)) done.settled
+    on_ok_weaker c.coerce_expressions.result (λ settled. relaxed_roots c.requires.right c.requires.kept c.in_ok-optimizer.ensures.ok (done.like root) settled) done.settled
 
 pub returns-clause-like : goal.returns-clause-like
 returns-clause-like g c = c.coerce_expressions.ensures.like (typed_root c.requires.right c.requires.kept c.in_ok-optimizer.ensures.ok)

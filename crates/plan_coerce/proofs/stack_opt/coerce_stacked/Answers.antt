@@ -8,14 +8,16 @@ use Rattle.plan_arena.proofs.ItemLemmas.{grown_held}
 use Rattle.plan_arena.proofs.NumberLemmas.{all_joined, all_reversed, all_weaker}
 use Rattle.plan_types.proofs.ResultLemmas.{passed_on}
 use Rattle.plan_coerce.specs.Optimizer.{AreTrees, IsCoercionRefusal}
+use Rattle.plan_coerce.proofs.AnyRootLemmas.{Settling, settling_end, settling_start, settling_turn}
 use Rattle.plan_coerce.proofs.CountLemmas.{Counted, counted_end, counted_start, counted_stops, counted_turn}
 use Rattle.plan_coerce.proofs.NearLemmas.{Keeping, here_near, keeping_end, keeping_start, keeping_stops, keeping_turn, stops_apart, waiting_turn}
 use Rattle.plan_coerce.proofs.NumberRootLemmas.{Alone, alone_end, alone_turn, waits}
 use Rattle.plan_coerce.proofs.StackLemmas.{no_numbers, pushed_one}
-use Rattle.plan_coerce.proofs.TurnLemmas.{Pending, all_ended, memory_alone, no_memory_left, pending_start, pending_stops, pending_turn, stopped_finite, stopped_longer, top_first, turn_stopped}
+use Rattle.plan_coerce.proofs.TurnLemmas.{Pending, memory_alone, like_itself, no_memory_left, pending_start, pending_stops, pending_turn, stopped_finite, stopped_longer, top_first, turn_stopped}
+use Rattle.plan_coerce.proofs.TypedRootLemmas.{root_refused}
 use Rattle.plan_coerce.proofs.ManyRootLemmas.{Working, working_end, working_start, working_stops, working_turn, working_typed}
 use Rattle.plan_coerce.proofs.ReachLemmas.{among_all}
-use Rattle.plan_coerce.proofs.TypedNodeLemmas.{Standing, standing_start, standing_turn, stops_typed}
+use Rattle.plan_coerce.proofs.TypedNodeLemmas.{Standing, standing_start, standing_turn, stays_typed, stops_typed}
 use Rattle.plan_coerce.proofs.stack_opt.coerce_stacked.Goals as goal
 
 pub loop-turn-init : goal.loop-turn-init
@@ -29,8 +31,9 @@ loop-turn-init g c =
       finite = λ n t. t;
       waiting = all_reversed (DenotesTree (HoldsExpression c.args.arena.now)) roots c.requires.trees;
       longer = omega arith;
-      right = c.requires.right;
+      right = c.in_ok-type_nodes.ensures.right;
       pending = pending_start (rule.settled c.args.rule.now r s) (rule.measure c.args.rule.now r s) (rule.related c.args.rule.now r s) (rule.turns c.args.rule.now) r s (laws.congruent c.args.rule.now r s) (laws.transitive c.args.rule.now r s) (laws.steady c.args.rule.now r s) c.args.arena.now roots;
+      settling = settling_start (rule.settled c.args.rule.now r s) (rule.measure c.args.rule.now r s) (rule.related c.args.rule.now r s) (rule.turns c.args.rule.now) r s (laws.congruent c.args.rule.now r s) (laws.steady c.args.rule.now r s) c.args.arena.now roots;
       alone = λ root number many t none is d h. waits (ap reverse is) d;
       many = λ n e none are. working_start (rule.settled c.args.rule.now r s) (rule.measure c.args.rule.now r s) (rule.related c.args.rule.now r s) (rule.turns c.args.rule.now) n e r s (laws.congruent c.args.rule.now r s) (laws.transitive c.args.rule.now r s) (laws.steady c.args.rule.now r s) none c.args.arena.now roots are;
       standing = standing_start (rule.settled c.args.rule.now r s) (rule.measure c.args.rule.now r s) (rule.related c.args.rule.now r s) (rule.turns c.args.rule.now) r s (laws.congruent c.args.rule.now r s) (laws.transitive c.args.rule.now r s) c.args.arena.now roots;
@@ -72,6 +75,7 @@ loop-turn-preserved g c =
       longer = omega (arith, inv.longer, longer);
       right = c.in_ok-visit.ensures.right;
       pending = λ typed. pending_turn settled measure related turns r s (laws.congruent c.args.rule.now r s) (laws.transitive c.args.rule.now r s) (laws.steady c.args.rule.now r s) c.args.arena.now c.loop-turn.arena c.visit.new.arena at rest (numbers c.visit.new.stack.items) roots c.loop-turn.steps c.visit.new.steps turn (subst (λ l. Pending settled related r s c.args.arena.now c.loop-turn.arena l roots) popped (inv.pending typed));
+      settling = settling_turn settled measure related turns r s (laws.congruent c.args.rule.now r s) (laws.steady c.args.rule.now r s) c.loop-turn.arena c.visit.new.arena at rest (numbers c.visit.new.stack.items) roots c.loop-turn.steps c.visit.new.steps turn waiting (subst (λ l. Settling settled r s c.loop-turn.arena l roots) popped inv.settling);
       alone = λ root number many t none is d h. alone_turn settled measure related turns r s (laws.congruent c.args.rule.now r s) (laws.transitive c.args.rule.now r s) (laws.steady c.args.rule.now r s) none root number many c.loop-turn.arena c.visit.new.arena at rest (numbers c.visit.new.stack.items) c.loop-turn.steps c.visit.new.steps t h turn (subst (λ l. Alone settled related r s c.loop-turn.arena l root t) popped (inv.alone root number many t none is d h));
       many = λ n e none are. working_turn settled measure related turns n e r s (laws.congruent c.args.rule.now r s) (laws.transitive c.args.rule.now r s) (laws.steady c.args.rule.now r s) none c.args.arena.now roots are c.loop-turn.arena c.visit.new.arena at inv.finite inv.longer (λ m a. among_all (DenotesTree (HoldsExpression c.args.arena.now)) roots m c.requires.trees a) rest (numbers c.visit.new.stack.items) c.loop-turn.steps c.visit.new.steps turn (subst (λ l. Working settled related r s c.args.arena.now c.loop-turn.arena l roots) popped (inv.many n e none are));
       standing = standing_turn settled measure related turns r s (laws.congruent c.args.rule.now r s) (laws.transitive c.args.rule.now r s) c.args.arena.now roots c.loop-turn.arena c.visit.new.arena at rest (numbers c.visit.new.stack.items) c.loop-turn.steps c.visit.new.steps inv.finite inv.longer turn waiting (subst (λ l. Standing settled related turns r s c.args.arena.now c.loop-turn.arena l roots) popped inv.standing);
@@ -80,15 +84,13 @@ loop-turn-preserved g c =
     }
 
 pub returns-in-None-clause-settled : goal.returns-in-None-clause-settled
-returns-in-None-clause-settled g c = λ typed.
+returns-in-None-clause-settled g c =
     let r = registry c.args.udfs.now in
     let s = columns c.args.schema.now in
-    let rule = g.R.OptimizationRule in
-    let settled = rule.settled c.args.rule.now r s in
-    let related = rule.related c.args.rule.now r s in
+    let settled = g.R.OptimizationRule.settled c.args.rule.now r s in
     let roots = numbers c.args.stack.now.items in
     let none = ap reverse (no_numbers c.loop-turn.stack.items c.in-None.ensures.variant.1) in
-    all_ended settled c.loop-turn.arena roots (subst (λ l. Pending settled related r s c.args.arena.now c.loop-turn.arena l roots) none (c.loop-turn.invariant.pending typed)).settled
+    settling_end settled r s c.loop-turn.arena roots (subst (λ l. Settling settled r s c.loop-turn.arena l roots) none c.loop-turn.invariant.settling)
 
 pub returns-in-None-clause-bounded : goal.returns-in-None-clause-bounded
 returns-in-None-clause-bounded g c = λ n e apart.
@@ -287,3 +289,48 @@ returns-in_err-visit-clause-typed g c =
     let trees = subst (AreTrees c.loop-turn.arena) popped inv.waiting in
     let now = subst (λ l. Standing settled related turns r s c.args.arena.now c.loop-turn.arena l roots) popped inv.standing in
     stops_typed settled (rule.measure c.args.rule.now r s) related turns r s (laws.congruent c.args.rule.now r s) (laws.transitive c.args.rule.now r s) c.args.arena.now roots c.loop-turn.arena c.visit.new.arena at (reverse rest) inv.finite inv.longer trees now c.in_err-visit.ensures.stopped
+
+pub returns-in_err-type_nodes-clause-typed : goal.returns-in_err-type_nodes-clause-typed
+returns-in_err-type_nodes-clause-typed g c =
+    let r = registry c.args.udfs.now in
+    let s = columns c.args.schema.now in
+    let rule = g.R.OptimizationRule in
+    let laws = g.met.R.OptimizationRule in
+    stays_typed (rule.settled c.args.rule.now r s) (rule.measure c.args.rule.now r s) (rule.related c.args.rule.now r s) (rule.turns c.args.rule.now) r s (laws.congruent c.args.rule.now r s) (laws.transitive c.args.rule.now r s) c.args.arena.now (numbers c.args.stack.now.items)
+
+pub returns-in_err-type_nodes-clause-like : goal.returns-in_err-type_nodes-clause-like
+returns-in_err-type_nodes-clause-like g c = λ typed n t d.
+    let r = registry c.args.udfs.now in
+    let s = columns c.args.schema.now in
+    record { tree = t; denotes = d; like = like_itself (g.R.OptimizationRule.related c.args.rule.now r s) r s (g.met.R.OptimizationRule.congruent c.args.rule.now r s) t }
+
+pub returns-in_err-type_nodes-clause-beside : goal.returns-in_err-type_nodes-clause-beside
+returns-in_err-type_nodes-clause-beside g c = λ limit is none are n t d away.
+    let r = registry c.args.udfs.now in
+    let s = columns c.args.schema.now in
+    record { tree = t; denotes = d; like = like_itself (g.R.OptimizationRule.related c.args.rule.now r s) r s (g.met.R.OptimizationRule.congruent c.args.rule.now r s) t }
+
+pub returns-in_err-type_nodes-clause-finite : goal.returns-in_err-type_nodes-clause-finite
+returns-in_err-type_nodes-clause-finite g c = λ n tree. tree
+
+pub returns-in_err-type_nodes-clause-elsewhere : goal.returns-in_err-type_nodes-clause-elsewhere
+returns-in_err-type_nodes-clause-elsewhere g c = λ limit is n op inputs apart held. held
+
+pub returns-in_err-type_nodes-clause-reaches : goal.returns-in_err-type_nodes-clause-reaches
+returns-in_err-type_nodes-clause-reaches g c = λ limit is n reached. inr reached
+
+pub returns-in_err-type_nodes-clause-bounded : goal.returns-in_err-type_nodes-clause-bounded
+returns-in_err-type_nodes-clause-bounded g c = λ n e apart.
+    let r = registry c.args.udfs.now in
+    let s = columns c.args.schema.now in
+    let measure = g.R.OptimizationRule.measure c.args.rule.now r s in
+    let roots = numbers c.args.stack.now.items in
+    counted_end measure n (2 * n + 2) refl c.args.arena.now (reverse roots) c.args.steps.now c.args.steps.now (counted_start measure n (2 * n + 2) refl (λ t. g.met.R.OptimizationRule.bounded c.args.rule.now r s t n e) c.args.arena.now roots c.args.steps.now apart)
+
+pub returns-in_err-type_nodes-clause-err : goal.returns-in_err-type_nodes-clause-err
+returns-in_err-type_nodes-clause-err g c =
+    let r = registry c.args.udfs.now in
+    let s = columns c.args.schema.now in
+    let rule = g.R.OptimizationRule in
+    let roots = numbers c.args.stack.now.items in
+    passed_on c.from_residual.result c.in_err-type_nodes.field-0.0 _ c.from_residual.ensures.1 (root_refused (rule.settled c.args.rule.now r s) (rule.turns c.args.rule.now) r s c.args.arena.now roots c.in_err-type_nodes.field-0.0 c.requires.trees c.in_err-type_nodes.ensures.err)

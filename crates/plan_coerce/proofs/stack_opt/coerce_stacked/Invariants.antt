@@ -11,6 +11,7 @@ use Rattle.plan_coerce.proofs.ManyRootLemmas.{Working}
 use Rattle.plan_coerce.proofs.NumberRootLemmas.{Alone}
 use Rattle.plan_infer.specs.KeptTypes.{IsRight}
 use Rattle.plan_coerce.specs.Optimizer.{AreApart, AreRoots, AreTrees, AreTypedRoots, StaysFinite}
+use Rattle.plan_coerce.proofs.AnyRootLemmas.{Settling}
 use Rattle.plan_coerce.proofs.CountLemmas.{Counted}
 use Rattle.plan_coerce.proofs.NearLemmas.{Keeping}
 use Rattle.plan_coerce.proofs.TurnLemmas.{Pending}
@@ -29,6 +30,7 @@ invariant-loop-turn g l =
       longer : length l.initial.arena ≤ length l.arena;
       right : IsRight registry schema l.arena l.types;
       pending : AreTypedRoots settled registry schema l.initial.arena roots → Pending settled (g.R.OptimizationRule.related l.rule registry schema) registry schema l.initial.arena l.arena (reverse (numbers l.stack.items)) roots;
+      settling : Settling settled registry schema l.arena (reverse (numbers l.stack.items)) roots;
       alone : (root : ℕ) (number : ℤ) (many : Bool) (t : Expression) → SettlesNoNumber settled registry schema → roots ≡ root ∷ [] → Denotes (HoldsExpression l.initial.arena) root t → typing registry schema t ≡ Ok (record { type = Untyped number; many = many }) → Alone settled (g.R.OptimizationRule.related l.rule registry schema) registry schema l.arena (reverse (numbers l.stack.items)) root t;
       many : (n : ℕ) → g.R.OptimizationRule.turns l.rule ≡ Some n → SettlesNoNumber settled registry schema → AreRoots settled registry schema l.initial.arena roots → Working settled (g.R.OptimizationRule.related l.rule registry schema) registry schema l.initial.arena l.arena (reverse (numbers l.stack.items)) roots;
       standing : Standing settled (g.R.OptimizationRule.related l.rule registry schema) (g.R.OptimizationRule.turns l.rule) registry schema l.initial.arena l.arena (reverse (numbers l.stack.items)) roots;

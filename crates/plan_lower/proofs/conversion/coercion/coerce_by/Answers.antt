@@ -51,7 +51,7 @@ returns-clause-ok g c =
     let typed = known_roots r s c.args.start old roots c.requires.known in
     let done = c.in_ok-coerce_expressions.ensures in
     on_ok c.inline_by.result c.inline_by.ensures.settled (λ ended first known.
-    let coerced = coerced_roots r s first old mid roots known (done.like typed) (done.settled typed) (done.elsewhere 8 refl) in
+    let coerced = coerced_roots r s first old mid roots known (done.like typed) done.settled (done.elsewhere 8 refl) in
     let last = subst (AllByRecursion (DenotesSettled stays new)) c.requires.both ended in
     written_roots r s first old mid new roots known coerced (done.reaches 8 refl) c.inline_by.ensures.like last (subst (StaysApart mid new) c.requires.both c.inline_by.ensures.apart))
 

@@ -3,7 +3,6 @@ use Rattle.plan_types.specs.Schemas.{columns}
 use Rattle.plan_dsl.specs.Registry.{registry}
 use Rattle.plan_coerce.specs.Optimizer.{roots_of}
 use Rattle.plan_lower.proofs.ProjectionLemmas.{refused_as}
-use Rattle.plan_coerce.proofs.TurnLemmas.{on_ok}
 use Rattle.plan_coerce.proofs.UntoldLemmas.{roots_settled, stays_like_itself}
 use Rattle.plan_lower.proofs.conversion.coercion.inline_by.Goals as goal
 
@@ -18,7 +17,7 @@ pub returns-clause-like : goal.returns-clause-like
 returns-clause-like g c = c.coerce_expressions.ensures.like c.requires.typed
 
 pub returns-clause-settled : goal.returns-clause-settled
-returns-clause-settled g c = on_ok c.coerce_expressions.result c.coerce_expressions.ensures.settled (λ settled. settled c.requires.typed)
+returns-clause-settled g c = c.coerce_expressions.ensures.settled
 
 pub returns-clause-apart : goal.returns-clause-apart
 returns-clause-apart g c = c.coerce_expressions.ensures.elsewhere 1 refl
