@@ -38,6 +38,7 @@ use Rattle.plan_infer.proofs.TableLemmas.{children_kept, kept_typing, layer_held
 use Rattle.plan_coerce.specs.Coercion.{AllStrictFrom, AreChanged, IsOver, IsOverOperands, KeepsStrict, TakesOperands}
 use Rattle.plan_coerce.specs.Reaching.{AreMadeOnce, IsClosed, IsReached, Near}
 use Rattle.plan_coerce.specs.Rules.{CanReplace, HasSameCasts, IsLike, IsReplacement, is_strict_node, said, until_strict}
+use Rattle.plan_coerce.proofs.FrameLemmas.{on_frames}
 use Rattle.plan_coerce.proofs.CoercionLemmas.{not_renamed, own_literal, rewritten, plain_strict, takes_listed, under_alias}
 use Rattle.plan_coerce.proofs.OnceLemmas.{over_once}
 use Rattle.plan_coerce.proofs.ReachLemmas.{changed_near, closed_put, closed_start, held_unwritten, inputs_near, new_kept, reached_near, root_near}
@@ -211,7 +212,7 @@ module _ (registry : Registry) (schema : Columns) (old new : List AExpr) (table 
       record {
         tree = settled t;
         denotes = settles (record { many = own.many; is = number_typed });
-        like = λ typed h. record { same = same_itself registry schema (settled t); relates = refl };
+        like = λ typed h. record { same = on_frames registry schema (settled t) (settled t) (same_itself registry schema (settled t)); relates = refl };
         ill_typed = λ kind h. let differs : Ok (typed_of own) ≡ Err kind = sym typed ∙ h in cc;
         known = λ typed h. settled_known registry schema t typed h;
         falls = falls_to registry schema (settled t) t s.strict loose;
@@ -236,7 +237,7 @@ module _ (registry : Registry) (schema : Columns) (old new : List AExpr) (table 
       record {
         tree = node r.op r.children;
         denotes = any_node 0 (set new at item) at (node r.op r.children) (r.inputs, r.held, r.denotes);
-        like = λ other h. subst (λ w. IsLike (HasSameCasts registry schema) registry schema w (node r.op r.children)) (sym stays) (record { same = r.same.same; relates = r.same.casts });
+        like = λ other h. subst (λ w. IsLike (HasSameCasts registry schema) registry schema w (node r.op r.children)) (sym stays) (record { same = on_frames registry schema t (node r.op r.children) r.same.same; relates = r.same.casts });
         ill_typed = λ kind h. let differs : Ok (typed_of own) ≡ Err kind = sym typed ∙ h in cc;
         known = λ other h.
             let is = ok_same (typing registry schema (node r.op r.children)) other (typed_of own) h (r.same.same.typing ∙ typed) in

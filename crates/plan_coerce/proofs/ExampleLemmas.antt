@@ -16,7 +16,7 @@ use Rattle.plan_dsl.specs.Registry.{Registry}
 use Rattle.plan_dsl.specs.Ops.{Op, BinaryOp, LenOp, LiteralOp, Expression}
 use Rattle.plan_dsl.specs.declared.operator.Operator.TheVariants.{Eq, Plus}
 use Rattle.plan_dsl.specs.Trees.{Trees, node, no_more, more}
-use Rattle.plan_dsl.specs.Strictness.{IsSame, IsStrict}
+use Rattle.plan_dsl.specs.Strictness.{IsStrict}
 use Rattle.plan_dsl.specs.Typing.{Typed, typing}
 use Rattle.plan_dsl.proofs.TypingLemmas.{ok_same}
 use Rattle.plan_dsl.specs.declared.literal.LiteralValue.TheVariants.{Int}
@@ -33,7 +33,7 @@ use Rattle.plan_arena.proofs.DenotationLemmas.{denotes_one, some_same}
 use Rattle.plan_arena.proofs.ItemLemmas.{expression_laws, layer_inputs, plan_got, plan_laws, within}
 use Rattle.plan_coerce.specs.Optimizer.{AreRoots, DenotesLike, IsNumberRoot, IsTypedRoot}
 use Rattle.plan_coerce.specs.Reaching.{Among, AreOnce, HasNodes, HaveNodes, Near, ReachedBy}
-use Rattle.plan_coerce.specs.Rules.{IsSettledPlan, HasAcceptedInputs, HasSameCasts, IsReplacement, SettlesNoNumber, StandsOver, has_truth, is_strict_node, said, until_strict}
+use Rattle.plan_coerce.specs.Rules.{IsSettledPlan, HasAcceptedInputs, HasSameCasts, IsReplacement, IsSameOnFrames, SettlesNoNumber, StandsOver, has_truth, is_strict_node, said, until_strict}
 use Rattle.plan_coerce.specs.Samples.{wide, cast_of, strict_items, strict_sum, equal_items, filter_by, filters, scan_and, IsSumFound, IsSumPlaced}
 use Rattle.plan_coerce.proofs.SettledLemmas.{settles_no_number}
 use Rattle.plan_infer.specs.Typed.{HasKnownType}
@@ -59,8 +59,8 @@ pub strict_root : (registry : Registry) (schema : Columns) (items : List AExpr) 
 strict_root registry schema items n tree root d = subst (IsStrict registry schema) (one_denoted items n root.0 tree root.1 d) root.2
 
 -- what a node denotes says the same
-pub same_tree : (related : Expression → Expression → Type 0) (registry : Registry) (schema : Columns) (items : List AExpr) (n : ℕ) (before tree : Expression) → DenotesLike related registry schema items n before → Denotes (HoldsExpression items) n tree → IsSame registry schema before tree
-same_tree related registry schema items n before tree found d = subst (IsSame registry schema before) (one_denoted items n found.tree tree found.denotes d) found.like.same
+pub same_tree : (related : Expression → Expression → Type 0) (registry : Registry) (schema : Columns) (items : List AExpr) (n : ℕ) (before tree : Expression) → DenotesLike related registry schema items n before → Denotes (HoldsExpression items) n tree → IsSameOnFrames registry schema before tree
+same_tree related registry schema items n before tree found d = subst (IsSameOnFrames registry schema before) (one_denoted items n found.tree tree found.denotes d) found.like.same
 
 -- what the sums denote, and that no node has a number past the end
 pub sum_denotes : Denotes (HoldsExpression sum_items) 2 sum
@@ -140,7 +140,7 @@ pub sum_replaced : IsReplacement (HasSameCasts [] two_columns) (said (until_stri
 sum_replaced = record {
   tree = strict_sum;
   denotes = strict_denotes;
-  like = λ typed is. record { same = record { typing = refl; name = refl; meaning = λ rows. refl }; relates = refl };
+  like = λ typed is. record { same = record { typing = refl; name = refl; meaning = λ rows is. refl }; relates = refl };
   ill_typed = λ kind is. let differs : Ok (of_type int32) ≡ Err kind = is in cc;
   known = λ typed is. known_one _ typed (record { typed = of_type int32; is = refl; known = refl }) is;
   falls = omega arith;

@@ -5,6 +5,7 @@ pub mod CoercionLemmas
 pub mod CoercionRuleLemmas
 pub mod CountLemmas
 pub mod ExampleLemmas
+pub mod FrameLemmas
 pub mod InliningLemmas
 pub mod ManyRootLemmas
 pub mod NameLemmas

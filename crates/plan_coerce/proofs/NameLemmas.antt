@@ -71,7 +71,7 @@ module _ (registry : Registry) (schema : Columns) where
 
   -- with every cast written out an expression says the same
   mutual
-    coerced_same : (tree : Expression) (typed : Typed) → typing registry schema tree ≡ Ok typed → IsSame registry schema tree (coerced registry schema tree)
+    pub coerced_same : (tree : Expression) (typed : Typed) → typing registry schema tree ≡ Ok typed → IsSame registry schema tree (coerced registry schema tree)
     coerced_same (node op ts) typed h =
         let p = typed_parts registry schema op ts typed h in
         let us = coerced_all registry schema ts in

@@ -34,6 +34,7 @@ use Rattle.plan_coerce.specs.Optimizer.{AreSettled, IsSettled}
 use Rattle.plan_coerce.specs.Reaching.{Among, AreOnce, HasNodes, HaveNodes, IsClosed, IsReached, Near, StaysOnce}
 use Rattle.plan_coerce.specs.Rules.{IsLike, IsReplacement}
 use Rattle.plan_coerce.specs.InlinedCasts.{HasSameInlined, LeadsTo, LeadsToLogical, all_inlined, cast_of, in_place_of, inlined, is_cast, is_cast_op, is_logical, is_told, is_told_top, literal_cast, stays, until_stays}
+use Rattle.plan_coerce.proofs.FrameLemmas.{on_frames}
 use Rattle.plan_coerce.proofs.InliningLemmas.{gives_literal, inlined_same, logical_truth}
 use Rattle.plan_coerce.proofs.SettledLemmas.{literal_typed}
 use Rattle.plan_coerce.proofs.OnceLemmas.{among_front, once_front, nodes_unwritten, all_nodes_unwritten}
@@ -188,8 +189,8 @@ module _ (registry : Registry) (schema : Columns) (items : List AExpr) (at : ℕ
   put_replaces tree there same told still known says = record {
     tree = tree;
     denotes = there;
-    like = λ typed h. subst (λ t. IsLike HasSameInlined registry schema t tree) (sym (cast_settled op ts cast)) (record { same = says; relates = same });
-    ill_typed = λ kind h. record { same = says; relates = same };
+    like = λ typed h. subst (λ t. IsLike HasSameInlined registry schema t tree) (sym (cast_settled op ts cast)) (record { same = on_frames registry schema (node op ts) tree says; relates = same });
+    ill_typed = λ kind h. record { same = on_frames registry schema (node op ts) tree says; relates = same };
     known = known;
     falls =
         let none = stayed tree still in

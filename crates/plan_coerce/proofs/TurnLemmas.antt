@@ -13,9 +13,8 @@ use Rattle.plan_dsl.specs.Registry.{Registry}
 use Rattle.plan_dsl.specs.Literals.{settled}
 use Rattle.plan_dsl.specs.Trees.{Trees, node, no_more, more, AllRelated}
 use Rattle.plan_dsl.specs.Ops.{Op, Expression}
-use Rattle.plan_dsl.specs.Strictness.{IsSame}
 use Rattle.plan_dsl.specs.Typing.{Typed, typing, typing_all}
-use Rattle.plan_dsl.proofs.SameLemmas.{node_same, same_itself, same_then}
+use Rattle.plan_dsl.proofs.SameLemmas.{same_itself}
 use Rattle.plan_dsl.proofs.TypingLemmas.{by_children, typed_parts}
 use Rattle.plan_arena.specs.declared.aexpr.AExpr.{AExpr}
 use Rattle.plan_arena.specs.Denotation.{Denotes, DenoteAll, DenotesTree}
@@ -33,6 +32,7 @@ use Rattle.plan_infer.specs.KeptTypes.{IsKept, KeepsEntry}
 use Rattle.plan_infer.proofs.TableLemmas.{keeps_one}
 use Rattle.plan_coerce.specs.Turns.{IsFound, IsPlaced, IsStopped, IsTurn, finds, places}
 use Rattle.plan_coerce.proofs.CoercionLemmas.{written_elsewhere}
+use Rattle.plan_coerce.proofs.FrameLemmas.{frames_then, node_on_frames, on_frames}
 use Rattle.plan_coerce.proofs.OnceLemmas.{among_back, among_front}
 use Rattle.plan_coerce.proofs.SettledLemmas.{known_settled, known_typings}
 use Rattle.std.proofs.Math.ListN.{length-set}
@@ -62,23 +62,17 @@ children_grown items items' g (n ∷ ns) no_more d = absurd d
 module _ (related : Expression → Expression → Type 0) (registry : Registry) (schema : Columns) (congruent : IsCongruent related registry schema) where
   mutual
     pub like_itself : (t : Expression) → IsLike related registry schema t t
-    like_itself (node op ts) = record { same = same_itself registry schema (node op ts); relates = congruent op ts ts (all_like_itself ts) }
+    like_itself (node op ts) = record { same = on_frames registry schema (node op ts) (node op ts) (same_itself registry schema (node op ts)); relates = congruent op ts ts (all_like_itself ts) }
 
     all_like_itself : (ts : Trees Op) → AllRelated (IsLike related registry schema) ts ts
     all_like_itself no_more = tt
     all_like_itself (more t ts) = (like_itself t, all_like_itself ts)
 
   pub like_then : IsTransitive related → (t u w : Expression) → IsLike related registry schema t u → IsLike related registry schema u w → IsLike related registry schema t w
-  like_then transitive t u w a b = record { same = same_then registry schema t u w a.same b.same; relates = transitive t u w a.relates b.relates }
-
-  all_same : (ts us : Trees Op) → AllRelated (IsLike related registry schema) ts us → AllRelated (IsSame registry schema) ts us
-  all_same no_more no_more a = tt
-  all_same (more t ts) (more u us) a = (a.0.same, all_same ts us a.1)
-  all_same no_more (more u us) a = absurd a
-  all_same (more t ts) no_more a = absurd a
+  like_then transitive t u w a b = record { same = frames_then registry schema t u w a.same b.same; relates = transitive t u w a.relates b.relates }
 
   pub node_like : (op : Op) (ts us : Trees Op) → AllRelated (IsLike related registry schema) ts us → IsLike related registry schema (node op ts) (node op us)
-  node_like op ts us a = record { same = node_same registry schema op ts us (all_same ts us a); relates = congruent op ts us a }
+  node_like op ts us a = record { same = node_on_frames related registry schema op ts us a; relates = congruent op ts us a }
 
   -- every tree becomes one that is like it, where one node's does and no other item changes
   pub become : (items items' : List AExpr) (at : ℕ) (before : Expression) → Denotes (HoldsExpression items) at before → DenotesLike related registry schema items' at before → ((n : ℕ) (op : Op) (inputs : List ℕ) → n ≢ at → HoldsExpression items n op inputs → HoldsExpression items' n op inputs) → StaysLike related registry schema items items'

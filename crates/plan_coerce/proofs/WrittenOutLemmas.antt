@@ -1,13 +1,15 @@
 -- Roots that both rules have gone over, one behind the other: coercion, and then the one by which casts go.
-use Rattle.std.proofs.Common.{◌≡◌, ℕ, ◌<◌, ◌≤◌, List, [], ◌∷◌, length, refl, sym, ap, ◌∙◌, subst, map, arith, inl, inr, ⊎_elim}
+use Rattle.std.proofs.Common.{◌≡◌, ℕ, ◌<◌, ◌≤◌, List, [], ◌∷◌, length, Ok, refl, sym, ap, ◌∙◌, subst, map, arith, inl, inr, ⊎_elim}
 use Rattle.std.specs.List.{AllByRecursion}
+use Rattle.std.proofs.lemmas.Bool.{and_parts}
 use Rattle.plan_types.specs.Schemas.{Columns}
 use Rattle.plan_dsl.specs.Registry.{Registry}
 use Rattle.plan_dsl.specs.Ops.{Op, Expression}
 use Rattle.plan_dsl.specs.Trees.{node}
-use Rattle.plan_dsl.specs.Typing.{Typed, typing}
-use Rattle.plan_dsl.specs.Strictness.{IsStrict}
+use Rattle.plan_dsl.specs.Typing.{Typed, own_typed, then_typed, typing, typing_all, typing_rule}
+use Rattle.plan_dsl.specs.Strictness.{IsSame, IsStrict, are_strict, is_strict_over}
 use Rattle.plan_dsl.proofs.SameLemmas.{same_then}
+use Rattle.plan_dsl.proofs.StrictLemmas.{strict_parts}
 use Rattle.plan_arena.specs.declared.aexpr.AExpr.{AExpr}
 use Rattle.plan_arena.specs.Denotation.{Denotes, DenotesTree}
 use Rattle.plan_arena.specs.Layers.{shape_of}
@@ -17,15 +19,29 @@ use Rattle.plan_arena.proofs.ItemLemmas.{any_node, expression_laws, within}
 use Rattle.plan_arena.proofs.NumberLemmas.{all_weaker}
 use Rattle.plan_infer.specs.Typed.{DenotesKnown}
 use Rattle.plan_coerce.specs.Coercion.{KeepsBelow, coerced}
-use Rattle.plan_coerce.specs.InlinedCasts.{HasSameInlined, inlined, stays}
+use Rattle.plan_coerce.specs.InlinedCasts.{HasSameInlined, inlined, stays, written_out}
 use Rattle.plan_coerce.specs.Optimizer.{AreTrees, AreTypedRoots, AreWrittenOut, DenotesSettled, IsCoerced, IsTypedRoot, IsWrittenOut, ReachesNear, StaysApart, StaysLike}
 use Rattle.plan_coerce.specs.Reaching.{IsReached}
 use Rattle.plan_coerce.specs.Rules.{HasSameCasts}
 use Rattle.plan_coerce.proofs.CoercedLemmas.{strict_coerced}
-use Rattle.plan_coerce.proofs.InliningLemmas.{inlined_strict}
+use Rattle.plan_coerce.proofs.InliningLemmas.{inlined_same, inlined_strict}
+use Rattle.plan_coerce.proofs.NameLemmas.{coerced_same}
 use Rattle.plan_coerce.proofs.RightLemmas.{node_within}
 use Rattle.plan_coerce.proofs.RootLemmas.{known_reach}
 use Rattle.plan_coerce.proofs.ToldLemmas.{stays_inlined}
+
+module _ (registry : Registry) (schema : Columns) where
+  -- what is strict is typed
+  strict_typed : (tree : Expression) → IsStrict registry schema tree → (typed : Typed) × (typing registry schema tree ≡ Ok typed)
+  strict_typed (node op ts) strict =
+      let parts = and_parts (is_strict_over registry schema op (typing_all registry schema ts)) (are_strict registry schema ts) strict in
+      let s = strict_parts registry schema op ts parts.0 in
+      (s.ruling.own, ap (λ r. then_typed r (typing_rule registry schema op)) s.types ∙ ap own_typed s.rules)
+
+  -- what is written out says the same, on any rows
+  written_same : (tree : Expression) (typed : Typed) → typing registry schema tree ≡ Ok typed → IsSame registry schema tree (written_out registry schema tree)
+  written_same tree typed h =
+      same_then registry schema tree (coerced registry schema tree) (written_out registry schema tree) (coerced_same registry schema tree typed h) (inlined_same registry schema (coerced registry schema tree))
 
 module _ (registry : Registry) (schema : Columns) (first : ℕ) (old mid new : List AExpr) where
   -- a root that coercion made strict, and then lost the casts that go
@@ -38,12 +54,14 @@ module _ (registry : Registry) (schema : Columns) (first : ℕ) (old mid new : L
       let strict = subst (IsStrict registry schema) same s.2 in
       let whole = sym (ap inlined last) ∙ stays_inlined ended.tree ended.each ∙ last in
       let is : b.tree ≡ inlined a.tree = sym whole ∙ b.like.relates in
+      let written : b.tree ≡ written_out registry schema t = is ∙ ap inlined (sym (strict_coerced registry schema a.tree strict) ∙ a.like.relates) in
+      let known = strict_typed registry schema a.tree strict in
       record {
         tree = b.tree;
         denotes = b.denotes;
-        same = same_then registry schema t a.tree b.tree a.like.same b.like.same;
+        same = subst (IsSame registry schema t) (sym written) (written_same registry schema t known.0 (sym a.like.same.typing ∙ known.1));
         strict = subst (IsStrict registry schema) (sym is) (inlined_strict registry schema a.tree strict);
-        is = is ∙ ap inlined (sym (strict_coerced registry schema a.tree strict) ∙ a.like.relates);
+        is = written;
       }
 
   all_written : (roots : List ℕ) → StaysLike (HasSameCasts registry schema) registry schema old mid → StaysLike HasSameInlined registry schema mid new → AllByRecursion (λ n. (t : Expression) × Denotes (HoldsExpression mid) n t × IsStrict registry schema t) roots → AllByRecursion (DenotesSettled stays new) roots → AllByRecursion (λ n. (t : Expression) → Denotes (HoldsExpression old) n t → IsWrittenOut registry schema new n t) roots

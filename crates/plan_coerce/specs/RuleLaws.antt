@@ -17,7 +17,7 @@ module _ (related : Expression → Expression → Type 0) (registry : Registry) 
   like_typings no_more (more u us) h = absurd h
   like_typings (more t ts) no_more h = absurd h
 
-  like_labels : (ts us : Trees Op) → AllRelated (IsLike related registry schema) ts us → fold_all op_label us ≡ fold_all op_label ts
+  pub like_labels : (ts us : Trees Op) → AllRelated (IsLike related registry schema) ts us → fold_all op_label us ≡ fold_all op_label ts
   like_labels no_more no_more h = refl
   like_labels (more t ts) (more u us) h = ap (λ x. x ∷ fold_all op_label us) h.0.same.name ∙ ap (λ l. label_of t ∷ l) (like_labels ts us h.1)
   like_labels no_more (more u us) h = absurd h

@@ -3,6 +3,7 @@
 -- seen of its inputs alone, their names and typings, it stays so where inputs are put in place by others that are like them.
 -- What is said of a plan's node goes by the node's kind, and by the schema that goes into it.
 use Rattle.std.specs.Prelude.{◌≡◌, ◌<◌, ◌≤◌, ℕ, ℤ, Bool, true, false, List, [], ◌∷◌, length, set, Some, Result, Ok, Err, if◌then◌else◌}
+use Rattle.plan_types.specs.Frames.{IsFrame, Row}
 use Rattle.plan_types.specs.Types.{Untyped, is_known, is_truth}
 use Rattle.plan_types.specs.Schemas.{Columns}
 use Rattle.plan_types.specs.Values.{Val}
@@ -10,10 +11,11 @@ use Rattle.plan_types.specs.declared.error.ErrorKind.{ErrorKind}
 use Rattle.plan_types.specs.declared.error.ErrorKind.TheVariants.{InvalidOperation}
 use Rattle.plan_dsl.specs.Registry.{Registry}
 use Rattle.plan_dsl.specs.Literals.{settled}
-use Rattle.plan_dsl.specs.Names.{Label, op_label}
+use Rattle.plan_dsl.specs.Meaning.{meaning}
+use Rattle.plan_dsl.specs.Names.{Label, label_of, op_label}
 use Rattle.plan_dsl.specs.Ops.{Op, LiteralOp, Expression}
 use Rattle.plan_dsl.specs.Plans.{Named, PlanKind, FilterKind, PlanOp}
-use Rattle.plan_dsl.specs.Strictness.{IsSame, is_strict_over}
+use Rattle.plan_dsl.specs.Strictness.{is_strict_over}
 use Rattle.plan_dsl.specs.Trees.{Trees, node, no_more, more, fold_all, AllRelated}
 use Rattle.plan_dsl.specs.Typing.{Typed, typing, typing_all}
 use Rattle.plan_arena.specs.declared.aexpr.AExpr.{AExpr}
@@ -42,9 +44,15 @@ seen registry schema children = record { labels = fold_all op_label children; ty
 abbrev pub said : {A : Type 0} → (Op → Inputs → A) → Registry → Columns → Expression → A
 said says registry schema (node op children) = says op (seen registry schema children)
 
--- the one expression has the type, name and meaning of the other, and is related to it
+-- the one expression has the type and name of the other, and its meaning on each frame of the schema
+pub record IsSameOnFrames (registry : Registry) (schema : Columns) (before after : Expression) : Type 0 where
+  pub typing : typing registry schema after ≡ typing registry schema before
+  pub name : label_of after ≡ label_of before
+  pub meaning : (rows : List Row) → IsFrame (record { schema = schema; rows = rows }) → meaning registry (record { schema = schema; rows = rows }) after ≡ meaning registry (record { schema = schema; rows = rows }) before
+
+-- the one expression says so the same as the other, and is related to it
 pub record IsLike (related : Expression → Expression → Type 0) (registry : Registry) (schema : Columns) (before after : Expression) : Type 0 where
-  pub same : IsSame registry schema before after
+  pub same : IsSameOnFrames registry schema before after
   pub relates : related before after
 
 -- a node over children that are so related is related to the node over the others

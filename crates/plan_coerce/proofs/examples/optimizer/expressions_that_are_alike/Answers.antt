@@ -11,7 +11,7 @@ use Rattle.plan_coerce.proofs.ExampleLemmas.{other_label}
 use Rattle.plan_coerce.proofs.examples.optimizer.expressions_that_are_alike.Goals as goal
 
 sums_alike : IsLike (HasSameCasts [] two_columns) [] two_columns sum strict_sum
-sums_alike = record { same = record { typing = refl; name = refl; meaning = λ rows. refl }; relates = refl }
+sums_alike = record { same = record { typing = refl; name = refl; meaning = λ rows is. refl }; relates = refl }
 
 pub returns-clause-cast : goal.returns-clause-cast
 returns-clause-cast c = sums_alike
@@ -30,7 +30,7 @@ no_column e = cc
 
 pub returns-clause-one_column_alone : goal.returns-clause-one_column_alone
 returns-clause-one_column_alone c = λ congruent.
-    no_column (congruent (CastOp int32 NonStrict) (more a no_more) (more a no_more) (record { same = record { typing = refl; name = refl; meaning = λ rows. refl }; relates = refl }, tt))
+    no_column (congruent (CastOp int32 NonStrict) (more a no_more) (more a no_more) (record { same = record { typing = refl; name = refl; meaning = λ rows is. refl }; relates = refl }, tt))
 
 pub returns-clause-strict_nodes : goal.returns-clause-strict_nodes
 returns-clause-strict_nodes c = said_steady (is_strict_node [] two_columns) (HasSameCasts [] two_columns) [] two_columns
