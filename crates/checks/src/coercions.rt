@@ -16,6 +16,7 @@ use crate::keys::flags;
 use plan_arena::aexpr::{AExpr, Nodes};
 use plan_arena::arena::{Arena, Node};
 use plan_arena::expr_ir::{ExprIR, OutputName};
+use plan_coerce::cast_inlining::CastInliningRule;
 use plan_coerce::coercion_rule::TypeCoercionRule;
 use plan_coerce::rule::OptimizationRule;
 use plan_coerce::stack_opt::ConversionOptimizer;
@@ -38,9 +39,9 @@ use std::sync::ledger::{Blank, Ledger};
 
 /// What expressions are typed over.
 #[derive(Drop)]
-struct Scope {
-    schema: Schema,
-    udfs: Udfs,
+pub(crate) struct Scope {
+    pub(crate) schema: Schema,
+    pub(crate) udfs: Udfs,
 }
 
 // A frame of the columns a of Int8, b of Int32 and d of dates.
@@ -80,8 +81,8 @@ fn chain(rt: &impl Abort, alloc: Global, sums: usize, name: &str) -> Expr {
     sum
 }
 
-// The node of the expression, which is added.
-fn added(rt: &impl Abort, expr: Expr, arena: &mut Arena<AExpr>) -> Node
+/// The node of the expression, which is added.
+pub(crate) fn added(rt: &impl Abort, expr: Expr, arena: &mut Arena<AExpr>) -> Node
     ensures tree { DenotesTree (HoldsExpression arena.new) result.0 }
     ensures finite { StaysFinite arena.old arena.new }
 {
@@ -270,9 +271,9 @@ fn assert_strict(
     assert_number(rt, found.loose, 0);
 }
 
-// The rule goes over the root, which has that type. A use of the typing rule adds an entry for a node, so there are at most
-// as many as nodes.
-fn coerce_root<R: OptimizationRule>(
+/// The rule goes over the root, which has that type. A use of the typing rule adds an entry for a node, so there are at most
+/// as many as nodes.
+pub(crate) fn coerce_root<R: OptimizationRule>(
     rt: &impl Abort,
     rule: &R,
     root: Node,
@@ -523,4 +524,31 @@ fn any_number_of_expressions_is_stacked_with_its_inputs(rt: HostRuntime) {
         stack_all(&rt, sum, &arena, *count);
     }
     drop(arena);
+}
+
+// Of three roots the second has no type: they are refused by its kind, whatever the rule.
+fn assert_second_refused<R: OptimizationRule>(rt: &impl Abort, alloc: Global, rule: &R) {
+    let scope = typing_scope(rt, alloc);
+    let mut arena = Arena::new(alloc);
+    let first = added(rt, a_plus(rt, alloc, "b"), &mut arena);
+    let second = added(rt, a_plus(rt, alloc, "c"), &mut arena);
+    let third = added(rt, a_plus(rt, alloc, "a"), &mut arena);
+    let mut types = no_types(&arena);
+    let mut optimizer = ConversionOptimizer::new(alloc);
+    push(rt, &mut optimizer, first, &arena);
+    push(rt, &mut optimizer, second, &arena);
+    push(rt, &mut optimizer, third, &arena);
+    let answer = coerce(rule, &mut optimizer, &mut arena, &scope, &mut types);
+    assert_refused(rt, answer, ErrorKind::ColumnNotFound);
+    drop(arena);
+    drop(scope);
+    drop(types);
+    drop(optimizer);
+}
+
+#[test]
+fn a_root_without_a_type_is_refused_by_any_rule(rt: HostRuntime) {
+    assert_second_refused(&rt, rt.alloc(), &TypeCoercionRule);
+    assert_second_refused(&rt, rt.alloc(), &CastInliningRule);
+    assert_second_refused(&rt, rt.alloc(), &TypeCheckRule);
 }

@@ -1,12 +1,17 @@
-//! A rule of one's own at work, over so many casts.
+//! Rules of one's own at work, over so many nodes.
 ghost use Rattle.std.specs.Prelude.{IfOk};
 ghost use Rattle.plan_arena.specs.Denotation.{DenotesTree};
 ghost use Rattle.plan_arena.specs.Items.{HoldsExpression};
 
-use crate::fixtures::NO_MEMORY;
+use crate::coercions::{Scope, added, coerce_root};
+use crate::expressions::boxed;
+use crate::fixtures::{NO_MEMORY, assert_number, column};
+use own_rule::plain_ands::PlainAndRule;
 use own_rule::relax::relax_casts;
 use plan_arena::aexpr::AExpr;
 use plan_arena::arena::{Arena, Node};
+use plan_dsl::expr::Expr;
+use plan_dsl::operator::Operator;
 use plan_dsl::udfs::Udfs;
 use plan_types::dtype::{CastOptions, DataType};
 use plan_types::error::PlanError;
@@ -86,5 +91,56 @@ fn casts_to_another_type_stay_strict(rt: HostRuntime) {
     for count in [1, 2, 1_000] {
         relax(&rt, rt.alloc(), &DataType::Int32, count, false);
         relax(&rt, rt.alloc(), &DataType::Int64, count, true);
+    }
+}
+
+// So many of LogicalAnd, one over another, of columns of truth values.
+fn logical_ands(rt: &impl Abort, alloc: Global, count: usize) -> Expr {
+    let mut expr = column(rt, alloc, "a");
+    for _ in 0..count {
+        expr = Expr::BinaryExpr {
+            left: boxed(rt, alloc, expr),
+            op: Operator::LogicalAnd,
+            right: boxed(rt, alloc, column(rt, alloc, "b")),
+        };
+    }
+    expr
+}
+
+// How many nodes have that operator.
+fn operators_of(arena: &Arena<AExpr>, operator: Operator) -> usize {
+    let mut count: usize = 0;
+    for number in 0..arena.len() {
+        if let AExpr::BinaryExpr { op, .. } = arena.get(Node(number)) {
+            if *op == operator {
+                count = count.saturating_add(1);
+            }
+        }
+    }
+    count
+}
+
+#[test]
+fn each_logical_and_of_truths_is_made_plain(rt: HostRuntime) {
+    for count in [1, 2, 60, 1_000] {
+        let mut schema = Schema::new(rt.alloc());
+        for name in ["a", "b"] {
+            let name = PlSmallStr::new(rt.alloc(), name).expect(&rt, NO_MEMORY);
+            schema
+                .with_column(name, DataType::Boolean)
+                .expect(&rt, NO_MEMORY);
+        }
+        let scope = Scope {
+            schema,
+            udfs: Udfs::new(rt.alloc()),
+        };
+        let mut arena = Arena::new(rt.alloc());
+        let expr = logical_ands(&rt, rt.alloc(), count);
+        let root = added(&rt, expr, &mut arena);
+        coerce_root(&rt, &PlainAndRule, root, &mut arena, &scope, &DataType::Boolean);
+        assert_number(&rt, operators_of(&arena, Operator::LogicalAnd), 0);
+        assert_number(&rt, operators_of(&arena, Operator::And), count);
+        drop(arena);
+        drop(scope);
     }
 }

@@ -1,3 +1,5 @@
+mod AndLemmas
+mod ChangedOpLemmas
 mod MeaningLemmas
 mod PlacedLemmas
 mod RelaxedLemmas

@@ -23,6 +23,7 @@ use Rattle.plan_infer.proofs.TableLemmas.{known_typed, plain_tree}
 use Rattle.plan_coerce.specs.Optimizer.{AreSettled, AreTrees, AreTypedRoots, DenotesSettled, IsSettled, StaysLike}
 use Rattle.plan_infer.specs.Samples.{five}
 use Rattle.plan_coerce.specs.Rules.{SettlesNoNumber, said}
+use Rattle.plan_coerce.proofs.FrameLemmas.{on_frames}
 use Rattle.own_rule.specs.HarmlessCasts.{HasSameRelaxed, is_needless, is_relaxed, relaxed, relaxed_all, relaxed_op}
 
 op_stays : (op : Op) (typings : Result (List Typed) ErrorKind) → not (is_needless op typings) ≡ true → relaxed_op op typings ≡ op
@@ -56,7 +57,7 @@ module _ (registry : Registry) (schema : Columns) where
 
   -- an arena that stays
   pub like_itself : (items : List AExpr) → StaysLike (HasSameRelaxed registry schema) registry schema items items
-  like_itself items n t d = record { tree = t; denotes = d; like = record { same = same_itself registry schema t; relates = refl } }
+  like_itself items n t d = record { tree = t; denotes = d; like = record { same = on_frames registry schema t t (same_itself registry schema t); relates = refl } }
 
   -- a count of rows over a number without a type would stay
   settles_numbers : SettlesNoNumber (said (is_relaxed registry schema) registry schema) registry schema → ⊥

@@ -1,2 +1,4 @@
 pub mod HarmlessCasts
 pub mod HarmlessCastLaws
+pub mod PlainAnds
+pub mod PlainAndLaws

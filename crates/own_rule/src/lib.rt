@@ -3,4 +3,5 @@
 
 mod examples;
 pub mod harmless_casts;
+pub mod plain_ands;
 pub mod relax;

@@ -60,8 +60,7 @@ module _ (registry : Registry) (schema : Columns) where
   -- so does what is written out
   pub written_same : (tree : Expression) (typed : Typed) → typing registry schema tree ≡ Ok typed → IsSame registry schema tree (written_out registry schema tree)
   written_same tree typed h =
-      let same = coerced_same tree typed h in
-      same_then registry schema tree (coerced registry schema tree) (written_out registry schema tree) same (inlined_same registry schema (coerced registry schema tree) typed (same.typing ∙ h))
+      same_then registry schema tree (coerced registry schema tree) (written_out registry schema tree) (coerced_same tree typed h) (inlined_same registry schema (coerced registry schema tree))
 
 -- a type that lacks the number isn't the one that the number has alone
 other_type : (number : ℤ) (own target : Ty) → type_alone (Untyped number) ≡ Some own → integer_has target number ≡ false → same_type own target ≡ false
@@ -116,10 +115,10 @@ module _ (registry : Registry) (schema : Columns) (cost : Op → Result (List Ty
 
     -- what stands for a cast costs no more than what stands under it
     cast_of_counted : (target : Ty) (options : CastOptions) (x e : Expression) → cast_of target options x ≡ Some e → counted e ≤ counted x
-    cast_of_counted target options (node (LiteralOp from value) operands) e h =
+    cast_of_counted target options (node (LiteralOp from value) no_more) e h =
         let g = gives_literal from value target options e h in
         let is = ap counted g.is in
-        let same = flat.literals target from g.made value (Ok []) (typing_all registry schema operands) in
+        let same = flat.literals target from g.made value (Ok []) (Ok []) in
         omega (arith, is, same)
     cast_of_counted target options (node (BinaryOp operator) operands) e h =
         let is = ap counted (some_where (is_logical operator && same_type Truth target) (node (BinaryOp operator) operands) e h).1 in
@@ -140,7 +139,7 @@ module _ (registry : Registry) (schema : Columns) (cost : Op → Result (List Ty
       inlined_counted (node op ts) typed h =
           let p = typed_parts registry schema op ts typed h in
           let place = node_inlined_counted op ts in
-          let same = ap (cost op) (typings_same registry schema ts (all_inlined ts) (all_inlined_same registry schema ts p.below p.children_typed)) in
+          let same = ap (cost op) (typings_same registry schema ts (all_inlined ts) (all_inlined_same registry schema ts)) in
           let below = all_inlined_counted ts p.below p.children_typed in
           omega (arith, place, same, below)
 

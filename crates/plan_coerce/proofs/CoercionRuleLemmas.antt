@@ -8,7 +8,6 @@ use Rattle.plan_types.specs.Types.{Ty, Untyped, ty, is_known, same_type}
 use Rattle.plan_types.specs.declared.dtype.DataType.{DataType}
 use Rattle.plan_types.specs.Values.{Val, IntValue}
 use Rattle.plan_types.specs.CommonTypes.{type_alone}
-use Rattle.plan_types.specs.declared.error.ErrorKind.{ErrorKind}
 use Rattle.plan_types.specs.Schemas.{Name, Columns}
 use Rattle.plan_types.proofs.ListLemmas.{slice_get-append}
 use Rattle.plan_dsl.specs.Registry.{Registry}

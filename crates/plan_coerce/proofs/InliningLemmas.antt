@@ -1,17 +1,15 @@
 -- Casts that can be told beforehand: what stands for one says the same, and what stays is as it was.
-use Rattle.std.proofs.Common.{◌≡◌, ℕ, Bool, true, false, cond, List, [], ◌∷◌, Option, Some, None, is_some, Ok, Err, refl, sym, ap, ◌∙◌, subst}
-use Rattle.std.specs.Prelude.{◌&&◌, not, unwrap_or}
+use Rattle.std.proofs.Common.{◌≡◌, ℕ, Bool, true, false, cond, List, [], ◌∷◌, Option, Some, None, Ok, Err, refl, sym, ap, ◌∙◌, subst}
+use Rattle.std.specs.Prelude.{◌&&◌, unwrap_or}
 use Rattle.std.proofs.lemmas.Bool.{and_parts, and_from}
 use Rattle.plan_types.specs.Types.{Ty, Truth, is_known, same_type}
 use Rattle.plan_types.specs.TypeLaws.{same_type_exact, same_type_own}
 use Rattle.plan_types.specs.Casts.{Converted, Gives, Fails, can_cast, cast}
-use Rattle.plan_types.specs.CommonTypes.{type_alone}
 use Rattle.plan_types.specs.Frames.{Frame, Row}
 use Rattle.plan_types.specs.Outcomes.{Outcome, Done, Fault, Stuck, then_do}
 use Rattle.plan_types.specs.Schemas.{Columns}
 use Rattle.plan_types.specs.Values.{Val, NullValue}
 use Rattle.plan_types.specs.declared.dtype.CastOptions.{CastOptions}
-use Rattle.plan_types.specs.declared.dtype.CastOptions.TheVariants.{NonStrict}
 use Rattle.plan_types.specs.declared.error.ErrorKind.{ErrorKind}
 use Rattle.plan_types.specs.declared.error.ErrorKind.TheVariants.{InvalidOperation}
 use Rattle.plan_types.proofs.CastLemmas.{source_known}
@@ -19,7 +17,7 @@ use Rattle.plan_types.proofs.CommonLemmas.{alone_itself}
 use Rattle.plan_dsl.specs.declared.operator.Operator.{Operator}
 use Rattle.plan_dsl.specs.declared.operator.Operator.TheVariants.{LogicalAnd, LogicalOr}
 use Rattle.plan_dsl.specs.Aliases.{IsCore, are_core, is_core, is_core_op}
-use Rattle.plan_dsl.specs.Kernels.{Meaning, cast_column, cast_meaning, cast_values, given, kernel, stuck, value_before}
+use Rattle.plan_dsl.specs.Kernels.{Meaning, cast_column, cast_values, given, kernel, stuck, value_before}
 use Rattle.plan_dsl.specs.Literals.{is_literal}
 use Rattle.plan_dsl.specs.Meaning.{meaning, meaning_all, applied, node_meaning, ruled_meaning}
 use Rattle.plan_dsl.specs.OperatorTypes.{is_truth_or_null, pair_to, truth_types, with_types}
@@ -28,13 +26,13 @@ use Rattle.plan_dsl.specs.Registry.{Registry}
 use Rattle.plan_dsl.specs.Strictness.{IsSame, IsStrict, AllStrict, is_strict, are_strict, is_strict_over, is_strict_rule}
 use Rattle.plan_dsl.specs.Trees.{Trees, node, no_more, more, AllRelated}
 use Rattle.plan_dsl.specs.Typing.{Typed, Ruling, cast_taken, own_typed, rule, ruled_as, some_many, then_typed, typed_before, types_of, typing, typing_all, typing_rule}
-use Rattle.plan_dsl.proofs.CastMeaningLemmas.{cast_own, if_true, if_false}
+use Rattle.plan_dsl.proofs.CastMeaningLemmas.{cast_own, if_true}
 use Rattle.plan_dsl.proofs.LiteralLemmas.{literal_means, literal_typing}
 use Rattle.plan_dsl.proofs.SameLemmas.{node_same, same_itself, same_then, typings_same}
 use Rattle.plan_dsl.proofs.SignatureLemmas.{target_known}
 use Rattle.plan_dsl.proofs.StrictLemmas.{strict_parts}
-use Rattle.plan_dsl.proofs.TypingLemmas.{by_children, by_no_children, ok_same, typed_parts}
-use Rattle.plan_coerce.specs.InlinedCasts.{all_inlined, cast_of, cast_of_top, converted, in_place_of, inlined, is_logical, literal_cast, literal_given, literal_with, stays}
+use Rattle.plan_dsl.proofs.TypingLemmas.{ok_same, typed_parts}
+use Rattle.plan_coerce.specs.InlinedCasts.{all_inlined, cast_of, converted, in_place_of, inlined, is_logical, literal_cast, literal_given, literal_with}
 
 -- ---- what a literal in place of a cast is
 

@@ -1,9 +1,9 @@
 -- What stands at a node without casts that go, and what is put in place of such a cast.
-use Rattle.std.proofs.Common.{◌≡◌, ◌≢◌, ◌⊎◌, ◌<◌, ◌≤◌, ℕ, ℤ, Bool, true, false, cond, List, [], ◌∷◌, ◌++◌, length, map, set, slice_get, Option, Some, None, MatchOption, is_some, Ok, Err, refl, sym, ap, ◌∙◌, subst, arith, inl, inr, ⊎_elim}
-use Rattle.std.specs.Prelude.{◌&&◌, not, unwrap_or, max}
+use Rattle.std.proofs.Common.{◌≡◌, ◌≢◌, ◌<◌, ◌≤◌, ℕ, Bool, true, false, cond, List, [], ◌∷◌, length, map, set, slice_get, Option, Some, None, MatchOption, is_some, Ok, refl, sym, ap, ◌∙◌, subst, arith, inl, inr, ⊎_elim}
+use Rattle.std.specs.Prelude.{◌&&◌, not, unwrap_or}
 use Rattle.std.specs.List.{AllByRecursion}
 use Rattle.std.proofs.Math.ListN.{length-set}
-use Rattle.std.proofs.lemmas.Bool.{and_parts, and_from, false≢true}
+use Rattle.std.proofs.lemmas.Bool.{and_from, false≢true}
 use Rattle.plan_types.specs.Types.{Ty, Truth, Untyped, is_known, same_type}
 use Rattle.plan_types.specs.Casts.{can_cast}
 use Rattle.plan_types.specs.CommonTypes.{type_alone}
@@ -17,29 +17,29 @@ use Rattle.plan_dsl.specs.Literals.{literal_op, literal_type, literal_value, set
 use Rattle.plan_dsl.specs.Ops.{Op, LiteralOp, BinaryOp, CastOp, Expression}
 use Rattle.plan_dsl.specs.Registry.{Registry}
 use Rattle.plan_dsl.specs.Strictness.{IsSame}
-use Rattle.plan_dsl.specs.Trees.{Trees, node, no_more, more, tree_depth, trees_depth}
+use Rattle.plan_dsl.specs.Trees.{Trees, node, no_more, more, tree_depth}
 use Rattle.plan_dsl.specs.OperatorTypes.{Taken}
-use Rattle.plan_dsl.specs.Typing.{Typed, Ruling, cast_taken, rule, ruled_as, typing, typing_all}
+use Rattle.plan_dsl.specs.Typing.{Typed, Ruling, cast_taken, rule, ruled_as, typing}
 use Rattle.plan_dsl.proofs.SameLemmas.{same_then}
 use Rattle.plan_dsl.proofs.SignatureLemmas.{target_known}
-use Rattle.plan_dsl.proofs.TypingLemmas.{by_children, ok_same, ok_where, ruled_is, typed_parts}
+use Rattle.plan_dsl.proofs.TypingLemmas.{ok_where, ruled_is, typed_parts}
 use Rattle.plan_arena.specs.declared.aexpr.AExpr.{AExpr}
 use Rattle.plan_arena.specs.declared.aexpr.AExpr.TheVariants.{Literal as LiteralItem, BinaryExpr, Cast, Column, Len, Slice, Explode, Gather, Filter, Sort, SortBy, Alias, Agg, Window, Ternary, Function}
-use Rattle.plan_arena.specs.Denotation.{Denotes, DenoteAll}
+use Rattle.plan_arena.specs.Denotation.{Denotes}
 use Rattle.plan_arena.specs.Items.{HoldsExpression, expression_layer}
 use Rattle.plan_arena.specs.Layers.{inputs_of, layer, op_of, shape_of}
 use Rattle.plan_arena.proofs.DenotationLemmas.{all_kept_below, some_same}
 use Rattle.plan_arena.proofs.ItemLemmas.{expression_elsewhere, expression_got, expression_laws, expression_written, got_held, held_top, layer_inputs, layer_parts, no_children, one_child, within}
 use Rattle.plan_coerce.specs.Optimizer.{AreSettled, IsSettled}
-use Rattle.plan_coerce.specs.Reaching.{Among, AreOnce, HasNodes, HaveNodes, IsClosed, IsReached, Near, StaysOnce}
+use Rattle.plan_coerce.specs.Reaching.{Among, AreOnce, HasNodes, HaveNodes, IsClosed, Near, StaysOnce}
 use Rattle.plan_coerce.specs.Rules.{IsLike, IsReplacement}
 use Rattle.plan_coerce.specs.InlinedCasts.{HasSameInlined, LeadsTo, LeadsToLogical, all_inlined, cast_of, in_place_of, inlined, is_cast, is_cast_op, is_logical, is_told, is_told_top, literal_cast, stays, until_stays}
 use Rattle.plan_coerce.proofs.FrameLemmas.{on_frames}
 use Rattle.plan_coerce.proofs.InliningLemmas.{gives_literal, inlined_same, logical_truth}
 use Rattle.plan_coerce.proofs.SettledLemmas.{literal_typed}
-use Rattle.plan_coerce.proofs.OnceLemmas.{among_front, once_front, nodes_unwritten, all_nodes_unwritten}
+use Rattle.plan_coerce.proofs.OnceLemmas.{among_front, once_front, all_nodes_unwritten}
 use Rattle.plan_coerce.proofs.RightLemmas.{node_within}
-use Rattle.plan_coerce.proofs.ReachLemmas.{among_all, closed_put, closed_start, reached_near, root_near}
+use Rattle.plan_coerce.proofs.ReachLemmas.{closed_put, closed_start, reached_near, root_near}
 
 -- ---- what can be told of casts
 

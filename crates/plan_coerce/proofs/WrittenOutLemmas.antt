@@ -1,10 +1,10 @@
 -- Roots that both rules have gone over, one behind the other: coercion, and then the one by which casts go.
-use Rattle.std.proofs.Common.{◌≡◌, ℕ, ◌<◌, ◌≤◌, List, [], ◌∷◌, length, Ok, refl, sym, ap, ◌∙◌, subst, map, arith, inl, inr, ⊎_elim}
+use Rattle.std.proofs.Common.{◌≡◌, ℕ, List, [], ◌∷◌, Ok, sym, ap, ◌∙◌, subst, map, arith, ⊎_elim}
 use Rattle.std.specs.List.{AllByRecursion}
 use Rattle.std.proofs.lemmas.Bool.{and_parts}
 use Rattle.plan_types.specs.Schemas.{Columns}
 use Rattle.plan_dsl.specs.Registry.{Registry}
-use Rattle.plan_dsl.specs.Ops.{Op, Expression}
+use Rattle.plan_dsl.specs.Ops.{Expression}
 use Rattle.plan_dsl.specs.Trees.{node}
 use Rattle.plan_dsl.specs.Typing.{Typed, own_typed, then_typed, typing, typing_all, typing_rule}
 use Rattle.plan_dsl.specs.Strictness.{IsSame, IsStrict, are_strict, is_strict_over}
@@ -13,9 +13,9 @@ use Rattle.plan_dsl.proofs.StrictLemmas.{strict_parts}
 use Rattle.plan_arena.specs.declared.aexpr.AExpr.{AExpr}
 use Rattle.plan_arena.specs.Denotation.{Denotes, DenotesTree}
 use Rattle.plan_arena.specs.Layers.{shape_of}
-use Rattle.plan_arena.specs.Items.{HoldsExpression, HoldsFrom, expression_layer}
+use Rattle.plan_arena.specs.Items.{HoldsExpression, expression_layer}
 use Rattle.plan_arena.proofs.DenotationLemmas.{denotes_one}
-use Rattle.plan_arena.proofs.ItemLemmas.{any_node, expression_laws, within}
+use Rattle.plan_arena.proofs.ItemLemmas.{any_node, expression_laws}
 use Rattle.plan_arena.proofs.NumberLemmas.{all_weaker}
 use Rattle.plan_infer.specs.Typed.{DenotesKnown}
 use Rattle.plan_coerce.specs.Coercion.{KeepsBelow, coerced}

@@ -4,8 +4,8 @@ use Rattle.std.specs.List.{Contains}
 use Rattle.plan_types.specs.Errors.{IsRefusal, no_memory, no_room, broken}
 use Rattle.plan_types.specs.Types.{Truth, same_type}
 use Rattle.plan_types.specs.TypeLaws.{same_type_exact}
-use Rattle.plan_types.specs.Outcomes.{Meets}
-use Rattle.plan_types.specs.Frames.{Frame, Row, IsFrameOf}
+use Rattle.plan_types.specs.Outcomes.{Outcome, Done, Fault, Stuck, Meets}
+use Rattle.plan_types.specs.Frames.{Frame, Row, IsFrame, IsFrameOf}
 use Rattle.plan_types.specs.Schemas.{Columns, columns}
 use Rattle.plan_types.specs.declared.schema.Schema.{Schema}
 use Rattle.plan_types.specs.declared.error.ErrorKind.{ErrorKind}
@@ -13,14 +13,13 @@ use Rattle.plan_types.specs.declared.error.ErrorKind.TheVariants.{InvalidOperati
 use Rattle.plan_types.specs.declared.error.PlanError.{PlanError}
 use Rattle.plan_dsl.specs.Aliases.{IsCore}
 use Rattle.plan_dsl.specs.Ops.{Expression}
-use Rattle.plan_dsl.specs.PlanKernels.{scanned, table_frame}
+use Rattle.plan_dsl.specs.PlanKernels.{Evaluation, filtered, filtered_on, scanned, table_frame}
 use Rattle.plan_dsl.specs.PlanMeaning.{FitsPlan, HasTable}
 use Rattle.plan_dsl.specs.PlanRules.{broken_kinds, plan_rule, schema_by, schema_of}
 use Rattle.plan_dsl.specs.Plans.{FilterKind, Named, Plan, filter_op}
 use Rattle.plan_dsl.specs.Registry.{Registry}
-use Rattle.plan_dsl.specs.Strictness.{IsSame, IsStrict}
+use Rattle.plan_dsl.specs.Strictness.{IsStrict}
 use Rattle.plan_dsl.specs.Typing.{Typed, typing}
-use Rattle.plan_dsl.proofs.KernelLemmas.{filtered_agrees}
 use Rattle.plan_dsl.proofs.LiteralLemmas.{strict_settled}
 use Rattle.plan_dsl.proofs.RuleLemmas.{filter_other_type, filter_schema, predicate_typed, unbroken_kinds}
 use Rattle.plan_dsl.proofs.RunLemmas.{strict_is_meaning}
@@ -37,6 +36,7 @@ use Rattle.plan_arena.proofs.DenotationLemmas.{denotes_one}
 use Rattle.plan_arena.proofs.ItemLemmas.{expression_laws}
 use Rattle.plan_arena.proofs.RunLemmas.{accepted_schema, runs_soundly}
 use Rattle.plan_coerce.specs.Optimizer.{DenotesLike, StaysLike}
+use Rattle.plan_coerce.specs.Rules.{IsSameOnFrames}
 use Rattle.plan_lower.proofs.ExamplePlanLemmas.{one_plan}
 use Rattle.plan_properties.specs.Splitting.{IsCondition, split_predicate}
 use Rattle.plan_properties.proofs.FilterLemmas.{IsStacked, split_predicates, splitting_keeps_plans, stacked}
@@ -56,11 +56,17 @@ scan_fits tables None schema meets = tt
 scan_fits tables (Some n) schema meets =
     (elim (slice_get tables n) as (λ o. Meets (IsFrameOf schema) (table_frame o) → HasTable schema o) [ None ↦ λ h. absurd h | Some frame ↦ λ h. h ] meets, tt)
 
+-- a filter by a predicate that gives the same on frames of the schema
+filtered_same : (e : Evaluation) (x y : Named Expression) (schema : Columns) (input : Outcome Frame) → ((frame : Frame) → IsFrameOf schema frame → e frame x ≡ e frame y) → Meets (IsFrameOf schema) input → filtered e x input ≡ filtered e y input
+filtered_same e x y schema (Done frame) same is = ap (λ v. filtered_on v frame) (same frame is)
+filtered_same e x y schema Fault same is = refl
+filtered_same e x y schema Stuck same is = refl
+
 module _ (registry : Registry) (schema : Columns) where
   -- what a node denotes that is like what it denoted, and without those casts, says the same
-  pub relaxed_same : (new : List AExpr) (n : ℕ) (t : Expression) → DenotesLike (HasSameRelaxed registry schema) registry schema new n t → Denotes (HoldsExpression new) n (relaxed registry schema t) → IsSame registry schema t (relaxed registry schema t)
+  pub relaxed_same : (new : List AExpr) (n : ℕ) (t : Expression) → DenotesLike (HasSameRelaxed registry schema) registry schema new n t → Denotes (HoldsExpression new) n (relaxed registry schema t) → IsSameOnFrames registry schema t (relaxed registry schema t)
   relaxed_same new n t like d =
-      subst (IsSame registry schema t) (denotes_one (shape_of (map expression_layer new)) (HoldsExpression new) (expression_laws new) n like.tree (relaxed registry schema t) like.denotes d) like.like.same
+      subst (IsSameOnFrames registry schema t) (denotes_one (shape_of (map expression_layer new)) (HoldsExpression new) (expression_laws new) n like.tree (relaxed registry schema t) like.denotes d) like.like.same
 
   -- a refusal of what is typed is out of memory
   pub typed_refusal : (t : Expression) (own : Typed) (error : PlanError) → typing registry schema t ≡ Ok own → IsRefusal (typing registry schema t) error → error ≡ no_memory
@@ -107,7 +113,7 @@ module _ (registry : Registry) (schema : Columns) where
           let typed = ap (typing registry schema) (strict_settled registry schema p.expression strict_core.1) ∙ condition.typed in
           ap (λ s. plan_rule registry (filter_op p) (s ∷ [])) there ∙ filter_schema registry schema p condition.own typed condition.truth
 
-      module _ (same : IsSame registry schema p.expression (relaxed registry schema p.expression)) (names : IsNamedPlan before) where
+      module _ (same : IsSameOnFrames registry schema p.expression (relaxed registry schema p.expression)) (names : IsNamedPlan before) where
         relaxed_is : IsCondition registry schema predicate.expression
         relaxed_is = relaxed_condition registry schema p.expression condition
 
@@ -121,17 +127,21 @@ module _ (registry : Registry) (schema : Columns) where
         filters : IsStacked registry schema (split_predicate predicate) (scan table schema)
         filters = stacked registry schema (split_predicate predicate) (scan table schema) (split_predicates registry schema predicate relaxed_is core_is name_is) there (there, tt) (tt, tt) (tt, tt) (tt, tt)
 
-        agree : (rows : List Row) → map (by_running registry (record { schema = schema; rows = rows })) (predicate ∷ []) ≡ map (by_running registry (record { schema = schema; rows = rows })) (p ∷ [])
-        agree rows =
+        agree : (rows : List Row) → IsFrame (record { schema = schema; rows = rows }) → by_running registry (record { schema = schema; rows = rows }) predicate ≡ by_running registry (record { schema = schema; rows = rows }) p
+        agree rows is =
             let frame : Frame = record { schema = schema; rows = rows } in
             let typed = typing_relaxed registry schema p.expression in
-            let gives = strict_is_meaning registry frame predicate.expression core_is relaxed_is.strict ∙ same.meaning rows ∙ sym (strict_is_meaning registry frame p.expression strict_core.0 strict_core.1) in
-            λ i. record { name = p.label.name; typing = typed i; gives = gives i } ∷ []
+            let gives = strict_is_meaning registry frame predicate.expression core_is relaxed_is.strict ∙ same.meaning rows is ∙ sym (strict_is_meaning registry frame p.expression strict_core.0 strict_core.1) in
+            λ i. record { name = p.label.name; typing = typed i; gives = gives i }
+
+        agree_on : (frame : Frame) → IsFrameOf schema frame → by_running registry frame predicate ≡ by_running registry frame p
+        agree_on frame is =
+            subst (λ s. IsFrame (record { schema = s; rows = frame.rows }) → by_running registry (record { schema = s; rows = frame.rows }) predicate ≡ by_running registry (record { schema = s; rows = frame.rows }) p) (sym is.schema_is) (agree frame.rows) is.frame_is
 
         runs : (tables : List Frame) → Meets (IsFrameOf schema) (plan_run registry tables (scan table schema)) → plan_run registry tables after ≡ plan_run registry tables before
         runs tables meets =
             splitting_keeps_plans registry schema predicate (scan table schema) tables relaxed_is core_is meets
-            ∙ filtered_agrees (by_running registry) (by_running registry) predicate p schema (plan_run registry tables (scan table schema)) agree meets
+            ∙ filtered_same (by_running registry) predicate p schema (plan_run registry tables (scan table schema)) agree_on meets
 
         pub stands : (source : Plan) (old new : IRPlan) → StandsFor registry source old → DenotesPlan old before → DenotesPlan new after → StandsFor registry source new
         stands source old new is d e =

@@ -8,6 +8,7 @@ use Rattle.plan_arena.proofs.ItemLemmas.{grown_held}
 use Rattle.plan_arena.proofs.NumberLemmas.{all_joined, all_reversed, all_weaker}
 use Rattle.plan_types.proofs.ResultLemmas.{passed_on}
 use Rattle.plan_coerce.specs.Optimizer.{AreTrees, IsCoercionRefusal}
+use Rattle.plan_coerce.specs.Reaching.{Among}
 use Rattle.plan_coerce.proofs.AnyRootLemmas.{Settling, settling_end, settling_start, settling_turn}
 use Rattle.plan_coerce.proofs.CountLemmas.{Counted, counted_end, counted_start, counted_stops, counted_turn}
 use Rattle.plan_coerce.proofs.NearLemmas.{Keeping, here_near, keeping_end, keeping_start, keeping_stops, keeping_turn, stops_apart, waiting_turn}
@@ -205,7 +206,7 @@ returns-in_err-visit-clause-err g c =
     let popped = ap reverse (pushed_one c.pop.new.self.items c.loop-turn.stack.items c.in-Some.node c.in-Some.ensures.items) ∙ top_first rest at in
     let inv = c.loop-turn.invariant in
     let here = (subst (AreTrees c.loop-turn.arena) popped inv.waiting).0 in
-    passed_on c.from_residual.result c.in_err-visit.field-0.0 _ c.from_residual.ensures.1 (record {
+    passed_on c.from_residual-in_err-visit.result c.in_err-visit.field-0.0 _ c.from_residual-in_err-visit.ensures.1 (record {
       cause = ⊎_elim
           (λ memory. inl memory)
           (λ grows. inr (record {
@@ -333,4 +334,5 @@ returns-in_err-type_nodes-clause-err g c =
     let s = columns c.args.schema.now in
     let rule = g.R.OptimizationRule in
     let roots = numbers c.args.stack.now.items in
-    passed_on c.from_residual.result c.in_err-type_nodes.field-0.0 _ c.from_residual.ensures.1 (root_refused (rule.settled c.args.rule.now r s) (rule.turns c.args.rule.now) r s c.args.arena.now roots c.in_err-type_nodes.field-0.0 c.requires.trees c.in_err-type_nodes.ensures.err)
+    let refused = c.in_err-type_nodes.ensures.err in
+    passed_on c.from_residual.result c.in_err-type_nodes.field-0.0 _ c.from_residual.ensures.1 (root_refused (rule.settled c.args.rule.now r s) (rule.turns c.args.rule.now) r s c.args.arena.now roots c.in_err-type_nodes.field-0.0 c.requires.trees (refused.0, subst (λ nodes. Among (numbers nodes) refused.0) c.as_slice.ensures refused.1, refused.2))

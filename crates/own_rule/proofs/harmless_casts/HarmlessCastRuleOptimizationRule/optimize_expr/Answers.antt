@@ -10,7 +10,8 @@ use Rattle.plan_arena.specs.declared.aexpr.AExpr.TheVariants.{Cast}
 use Rattle.plan_arena.proofs.ItemLemmas.{got_held, tree_within}
 use Rattle.plan_infer.specs.KeptTypes.{typed_of}
 use Rattle.plan_infer.proofs.TableLemmas.{kept_typing, known_inputs}
-use Rattle.own_rule.proofs.PlacedLemmas.{IsNeedless, apart_relaxed, replaced_cast, replaced_known, still_closed, still_once, still_right}
+use Rattle.own_rule.proofs.ChangedOpLemmas.{still_closed, still_once, still_right}
+use Rattle.own_rule.proofs.PlacedLemmas.{IsNeedless, apart_relaxed, relaxes, replaced_cast, replaced_known}
 use Rattle.own_rule.proofs.harmless_casts.HarmlessCastRuleOptimizationRule.optimize_expr.Given.{Over}
 use Rattle.own_rule.proofs.harmless_casts.HarmlessCastRuleOptimizationRule.optimize_expr.Goals as goal
 
@@ -53,13 +54,13 @@ pub returns-clause-answer : goal.returns-clause-answer
 returns-clause-answer g c = replaced_cast (needless g c)
 
 pub returns-clause-numbers : goal.returns-clause-numbers
-returns-clause-numbers g c = λ t found some d typing unknown. absurd (false≢true (sym unknown ∙ replaced_known (needless g c) t d found typing))
+returns-clause-numbers g c = λ t found some d typing unknown. absurd (false≢true (sym unknown ∙ replaced_known (needless g c) t found d typing))
 
 pub returns-clause-reaches : goal.returns-clause-reaches
-returns-clause-reaches g c = λ n turns. still_closed (needless g c)
+returns-clause-reaches g c = λ n turns. still_closed (relaxes (needless g c))
 
 pub returns-clause-once : goal.returns-clause-once
-returns-clause-once g c = λ n turns. still_once (needless g c)
+returns-clause-once g c = λ n turns. still_once (relaxes (needless g c))
 
 pub returns-clause-placed : goal.returns-clause-placed
-returns-clause-placed g c = λ number. still_right (needless g c)
+returns-clause-placed g c = λ number. still_right (relaxes (needless g c))

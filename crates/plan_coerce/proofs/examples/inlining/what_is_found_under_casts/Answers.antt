@@ -1,4 +1,4 @@
-use Rattle.std.proofs.Common.{◌≡◌, [], ◌∷◌, refl, inl, inr, pos}
+use Rattle.std.proofs.Common.{refl, inr}
 use Rattle.plan_coerce.proofs.examples.inlining.what_is_found_under_casts.Goals as goal
 
 pub returns-clause-itself : goal.returns-clause-itself
