@@ -162,7 +162,7 @@ module _ (registry : Registry) (schema : Columns) where
             }
 
   -- so it stands of whatever plan an old top denotes that is such a filter
-  pub filter_stands : (p : Named Expression) (table : Option ℕ) (source : Plan) (old new : IRPlan) → (is : StandsFor registry source old) → is.typed.tree ≡ filtered_scan p table schema → IsSame registry schema p.expression (relaxed registry schema p.expression) → DenotesPlan new (split_scan registry p table schema) → StandsFor registry source new
+  pub filter_stands : (p : Named Expression) (table : Option ℕ) (source : Plan) (old new : IRPlan) → (is : StandsFor registry source old) → is.typed.tree ≡ filtered_scan p table schema → IsSameOnFrames registry schema p.expression (relaxed registry schema p.expression) → DenotesPlan new (split_scan registry p table schema) → StandsFor registry source new
   filter_stands p table source old new is one same e =
       stands p table (subst (IsAccepted registry) one is.typed.accepted) (subst (IsStrictPlan registry) one is.typed.strict) same (subst IsNamedPlan one is.typed.names) source old new is (subst (DenotesPlan old) one is.typed.denotes) e
 

@@ -21,7 +21,7 @@ ghost use Rattle.plan_arena.specs.declared.ir.IR.TheVariants.{DataFrameScan};
 ghost use Rattle.plan_infer.specs.declared.type_table.TypeTable.{TypeTable};
 ghost use Rattle.plan_infer.specs.Samples.{int8, int32, two_columns, a, b, five, binary, cast_to, sum, pair, columns_and, sum_items, a_items, at, refused, ForEntry, ForTable};
 ghost use Rattle.plan_coerce.specs.Coercion.{AllReady, AllStrictFrom, AreChanged, IsChanged, IsOver, IsOverOperands, IsReady, IsReadyAt, KeepsStrict, TakesOperands};
-ghost use Rattle.plan_coerce.specs.Optimizer.{AreApart, AreRoots, AreSettled, AreTrees, AreTypedRoots, DenotesSettled, EndsSettled, EndsTyped, IsCoercionRefusal, IsNumberRoot, IsPlanTurn, IsSettled, IsTypedRoot, LeadsToNoNumber, ReachesNear, StaysApart, StaysFinite, StaysLikeBeside, StaysLikeTyped, StaysOver, TypesNumber, all_with_inputs, with_inputs};
+ghost use Rattle.plan_coerce.specs.Optimizer.{AreApart, AreRoots, AreSettled, AreTrees, AreTypedRoots, DenotesSettled, EndsSettled, EndsTyped, HasTyping, IsCoercionRefusal, IsNumberRoot, IsPlanTurn, IsSettled, IsTypedRoot, LeadsToNoNumber, ReachesNear, StaysApart, StaysFinite, StaysLikeBeside, StaysLikeTyped, StaysOver, TypesNumber, all_with_inputs, with_inputs};
 ghost use Rattle.plan_coerce.specs.Reaching.{AreMadeOnce, HasNewNodes, IsClosed, IsMadeOnce, IsPutOnce, StaysOnce};
 ghost use Rattle.plan_coerce.specs.Rules.{IsSettledPlan, HasAcceptedInputs, HasSameCasts, IsCongruent, IsLike, IsPlanNode, IsPlanReplacement, IsReplacement, IsSteady, KeepsNumber, RefusesPredicate, StandsOver, has_truth, is_strict_node, said, until_strict};
 ghost use Rattle.plan_coerce.specs.Samples.{cast_of, strict_items, strict_sum, equal_items, filter_by, scan_and, filters, ForSchema, IsSumFound, IsSumPlaced, IsSumStopped, IsSumTurn};
@@ -54,7 +54,8 @@ pub fn settled_expressions()
     ensures no_such_node { ¬ (DenotesSettled (λ t. true) sum_items 3) }
 {}
 
-/// A root is typed. A number without a type is none, unless the rule settles what stands over such numbers.
+/// A root is typed. A number without a type is none, unless the rule settles what stands over such numbers, though it has a
+/// typing.
 pub fn roots_that_are_typed()
     ensures sum { IsTypedRoot (said (is_strict_node [] two_columns) [] two_columns) [] two_columns sum_items 2 }
     ensures number { ¬ (IsTypedRoot (said (is_strict_node [] []) [] []) [] [] (Literal (Int (pos 5)) ∷ []) 0) }
@@ -63,6 +64,8 @@ pub fn roots_that_are_typed()
     ensures no_such_node { ¬ (IsTypedRoot (λ t. true) [] two_columns sum_items 3) }
     ensures all { AreTypedRoots (said (is_strict_node [] two_columns) [] two_columns) [] two_columns sum_items (2 ∷ 0 ∷ []) }
     ensures not_all { ¬ (AreTypedRoots (said (is_strict_node [] two_columns) [] two_columns) [] two_columns sum_items (2 ∷ 3 ∷ [])) }
+    ensures number_has_a_typing { HasTyping [] [] (Literal (Int (pos 5)) ∷ []) 0 }
+    ensures column_has_none { ¬ (HasTyping [] [] a_items 0) }
 {}
 
 /// A root that is a number without a type may stand where no other root leads to it. It ends as one of the type that it has

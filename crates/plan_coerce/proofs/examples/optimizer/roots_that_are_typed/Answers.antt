@@ -1,4 +1,4 @@
-use Rattle.std.proofs.Common.{◌≡◌, [], ◌∷◌, Ok, Err, pos, true, false, refl, subst, arith}
+use Rattle.std.proofs.Common.{◌≡◌, [], ◌∷◌, Ok, Err, pos, true, false, refl, ap, subst, arith}
 use Rattle.plan_types.specs.Types.{Untyped, is_known}
 use Rattle.plan_types.specs.declared.error.ErrorKind.TheVariants.{ColumnNotFound}
 use Rattle.plan_dsl.specs.declared.literal.LiteralValue.TheVariants.{Int}
@@ -38,3 +38,13 @@ returns-clause-all c = (
 
 pub returns-clause-not_all : goal.returns-clause-not_all
 returns-clause-not_all c = λ all. no_node sum_items 3 all.1.0.tree (omega arith) all.1.0.denotes
+
+pub returns-clause-number_has_a_typing : goal.returns-clause-number_has_a_typing
+returns-clause-number_has_a_typing c = λ t d.
+    (of_one (Untyped (pos 5)), ap (typing [] []) (one_denoted (Literal (Int (pos 5)) ∷ []) 0 t five d ([], refl, tt)))
+
+pub returns-clause-column_has_none : goal.returns-clause-column_has_none
+returns-clause-column_has_none c = λ has.
+    let found = has a ([], refl, tt) in
+    let differs : Err ColumnNotFound ≡ Ok found.0 = found.1 in
+    cc
