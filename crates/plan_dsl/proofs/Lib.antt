@@ -18,6 +18,7 @@ pub mod GroupingLemmas
 pub mod GivenLemmas
 pub mod KernelLemmas
 pub mod KindLemmas
+pub mod ListLawLemmas
 pub mod LiteralLemmas
 pub mod MarkerLemmas
 pub mod OpLemmas

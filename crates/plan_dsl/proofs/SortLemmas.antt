@@ -61,7 +61,7 @@ sort_values_fit options typed values of = permuted_of typed values (sort_values 
 -- ---- by keys
 
 -- keys brought to so many values are as many
-as_many_rows : (count : ℕ) (values : List Val) → (length values == count || length values == 1) ≡ true → length (stretched count values) ≡ count
+pub as_many_rows : (count : ℕ) (values : List Val) → (length values == count || length values == 1) ≡ true → length (stretched count values) ≡ count
 as_many_rows count [] h = grind arith
 as_many_rows count (value ∷ []) h = length-replicate count value
 as_many_rows count (first ∷ second ∷ rest) h = grind arith

@@ -231,12 +231,12 @@ groups_in_order options type spots h =
 
 -- ---- windows of columns
 
-stretched_same : (count : ℕ) (values : List Val) → length values ≡ count → stretched count values ≡ values
+pub stretched_same : (count : ℕ) (values : List Val) → length values ≡ count → stretched count values ≡ values
 stretched_same count [] h = refl
 stretched_same count (value ∷ []) h = ap (λ n. replicate n value) (sym h)
 stretched_same count (first ∷ second ∷ rest) h = refl
 
-for_rows_same : (count : ℕ) (values : List Val) → length values ≡ count → for_rows count values ≡ Done values
+pub for_rows_same : (count : ℕ) (values : List Val) → length values ≡ count → for_rows count values ≡ Done values
 for_rows_same count values h =
     ap (λ b. cond (b || length values == 1) (Done (stretched count values)) Fault) (eq-eqb (length values) count h) ∙ ap Done (stretched_same count values h)
 

@@ -17,6 +17,7 @@ pub mod Groups
 pub mod Kernels
 pub mod Labels
 pub mod Laws
+pub mod ListLaws
 pub mod Literals
 pub mod Markers
 pub mod Meaning

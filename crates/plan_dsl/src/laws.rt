@@ -1,6 +1,13 @@
 //! Laws of the definitions. The functions do nothing: their clauses are the laws.
-ghost use Rattle.std.specs.Prelude.{ℕ};
+ghost use Rattle.std.specs.Prelude.{◌≡◌, ℕ, Bool, List, false};
+ghost use Rattle.plan_types.specs.Schemas.{Name};
+ghost use Rattle.plan_types.specs.Types.{Ty, Fields};
+ghost use Rattle.plan_types.specs.Values.{Val, Vals};
 ghost use Rattle.plan_dsl.specs.GroupLaws.{EachIsInOneGroup, ItemsGoToTheEnd, SameKeysAreOne};
+ghost use Rattle.plan_dsl.specs.declared.operator.Operator.{Operator};
+ghost use Rattle.plan_dsl.specs.Evaluations.{Evaluated};
+ghost use Rattle.plan_dsl.specs.FunctionValues.{is_missing};
+ghost use Rattle.plan_dsl.specs.ListLaws.{AggregatesAreOfAll, CastsAreOfEach, ColumnsAreForRows, ColumnsExplodeApart, FiltersKeepTrue, FramesTakeColumns, GatherGivesEach, GroupsGiveEach, IndicesArePlaces, MembersAreFound, OneIsLess, OperandsGiveEach, OperatorsGiveEach, PartsAreFound, RowsGiveEach, RowsHaveColumns, SeriesAreOfEach, ShiftsMoveValues, SlicesAreBetween};
 ghost use Rattle.plan_dsl.specs.Laws.{TakenTypesStay, TakenOperandsSaySame, SwappedOperandsSaySame, StrictRunIsMeaning, MeaningHasType, OnlyNumbersAreUntyped, CoresSaySame};
 ghost use Rattle.plan_dsl.specs.SortLaws.{ValuesHaveAnOrder, KeysHaveAnOrder, ValuesAreSorted, RowsAreSorted, SortsByKeysAreSorted, SortedByKeysAreTheSame};
 ghost use Rattle.plan_dsl.specs.WindowLaws.{WindowsHaveAValueForEachRow, RowsHaveWhatTheirGroupIsGiven, GroupsArePutInOrder, WindowsOfColumnsAreTheColumns};
@@ -51,4 +58,31 @@ pub fn window_laws()
     ensures groups { RowsHaveWhatTheirGroupIsGiven }
     ensures order { GroupsArePutInOrder }
     ensures columns { WindowsOfColumnsAreTheColumns }
+{}
+
+/// What goes over a list goes over all of it, whatever its length. Aggregates are of all values, columns explode apart,
+/// slices have the values between two places, and members and parts are found wherever they stand. Gathering, casts,
+/// functions, operands, columns and aggregates in groups give what each of theirs gives. Operators and rows have the values
+/// of their columns at each place, also where a column is put into a frame; a filter keeps what stands beside true values,
+/// and a shift keeps the number of values. Of two values in an order one is less, or both are one.
+pub fn list_laws()
+    ensures aggregates { (type : Ty) (rows : List ℕ) → AggregatesAreOfAll type rows }
+    ensures exploded { ColumnsExplodeApart }
+    ensures parts { (name : Name) (type : Ty) (fields : Fields) (value : Val) (parts : Vals) → PartsAreFound name type fields value parts }
+    ensures slices { (front middle back : List Val) → SlicesAreBetween front middle back }
+    ensures members { (before after : List Val) (value : Val) → is_missing value ≡ false → MembersAreFound before after value }
+    ensures gathered { (returns_scalar : Bool) (values : List Val) → GatherGivesEach returns_scalar values }
+    ensures indices { (before after : List Val) (value : Val) → IndicesArePlaces before after value }
+    ensures casts { CastsAreOfEach }
+    ensures by_row { RowsGiveEach }
+    ensures operands { OperandsGiveEach }
+    ensures series { SeriesAreOfEach }
+    ensures groups { (aggs : List Evaluated) → GroupsGiveEach aggs }
+    ensures operators { (operator : Operator) (from type : Ty) → OperatorsGiveEach operator from type }
+    ensures for_rows { (count : ℕ) → ColumnsAreForRows count }
+    ensures rows { RowsHaveColumns }
+    ensures stacked { FramesTakeColumns }
+    ensures filters { (truths : List Val) → FiltersKeepTrue truths }
+    ensures shifts { (fill : Val) → ShiftsMoveValues fill }
+    ensures order { OneIsLess }
 {}

@@ -2,6 +2,7 @@
 
 ghost use Rattle.std.specs.Prelude.{◌≡◌, List, [], ◌∷◌, pos, neg_ℤ, codes, true, false, Err};
 ghost use Rattle.plan_types.specs.Types.{NullType, Truth, TextType, ListType};
+ghost use Rattle.plan_types.specs.Casts.{Gives as Converts, Fails};
 ghost use Rattle.plan_types.specs.Outcomes.{Done, Fault, Stuck};
 ghost use Rattle.plan_types.specs.Schemas.{Columns};
 ghost use Rattle.plan_types.specs.declared.dtype.CastOptions.TheVariants.{NonStrict};
@@ -10,7 +11,8 @@ ghost use Rattle.plan_dsl.specs.Trees.{node, no_more, more};
 ghost use Rattle.plan_dsl.specs.Ops.{LiteralOp, ExplodeOp, GatherOp, FilterOp};
 ghost use Rattle.plan_dsl.specs.Names.{name_of};
 ghost use Rattle.plan_dsl.specs.Kernels.{filter_values};
-ghost use Rattle.plan_dsl.specs.Picks.{explode_values, gather_values};
+ghost use Rattle.plan_dsl.specs.ListLaws.{AreRowsOf, IsOfEach, as_outcome, beside_true};
+ghost use Rattle.plan_dsl.specs.Picks.{explode_values, gather_values, gathered};
 ghost use Rattle.plan_dsl.specs.Typing.{typing, kinds_in};
 ghost use Rattle.plan_dsl.specs.Strictness.{is_strict};
 ghost use Rattle.plan_dsl.specs.Samples.{Gives, GivesOfTwo, GivesAll, int8, int32, int64, null, yes, no, number, negative, text, list, struct_of, one_field, column, a, b, c, count, literal, typed_literal, one, two, five, below, huge, nothing, less, sum, cast_as, explode, gather, gather_one, keep_where, of_many, of_one, means, runs, alone, beside, one_to_five, schema_ab, schema_flagged, flagged, table};
@@ -93,4 +95,16 @@ pub fn values_of_filtered_columns()
         Gives (means flagged) ((keep_where a kept, Done (number 1 ∷ null ∷ [])) ∷ (keep_where five kept, Done (number 5 ∷ number 5 ∷ [])) ∷ (keep_where a nothing, Done []) ∷
         (keep_where (keep_where a kept) kept, Fault) ∷ []) }
     ensures runs { Gives (runs flagged) ((keep_where a (column "keep"), Done (number 1 ∷ null ∷ [])) ∷ (keep_where a nothing, Stuck) ∷ []) }
+{}
+
+/// What is given of each of some values, in order: none too few, and nothing where one of them gives nothing. Rows of columns
+/// have the values of each column, and what stands beside true values is what a filter keeps.
+pub fn values_one_by_one()
+    ensures each { IsOfEach (gathered (yes ∷ no ∷ [])) (number 1 ∷ null ∷ []) (Done (no ∷ null ∷ [])) }
+    ensures too_few { ¬ (IsOfEach (gathered (yes ∷ no ∷ [])) (number 1 ∷ null ∷ []) (Done (no ∷ []))) }
+    ensures with_a_fault { ¬ (IsOfEach (gathered (yes ∷ no ∷ [])) (number 1 ∷ number 2 ∷ []) (Done (no ∷ null ∷ []))) }
+    ensures converted { (as_outcome (Converts yes) ≡ Done yes) × (as_outcome Fails ≡ Fault) }
+    ensures rows { ¬ (AreRowsOf 2 ((yes ∷ []) ∷ (no ∷ null ∷ []) ∷ []) ((yes ∷ no ∷ []) ∷ (yes ∷ no ∷ []) ∷ [])) }
+    ensures beside { (beside_true (yes ∷ no ∷ null ∷ yes ∷ []) (number 1 ∷ number 2 ∷ null ∷ number 4 ∷ []) ≡ number 1 ∷ number 4 ∷ []) ×
+        (beside_true (yes ∷ yes ∷ []) (number 1 ∷ []) ≡ number 1 ∷ []) }
 {}
