@@ -1,20 +1,27 @@
 //! Laws of the definitions. The functions do nothing: their clauses are the laws.
-ghost use Rattle.std.specs.Prelude.{◌≡◌, ℕ, List, Some, None, true, false};
+ghost use Rattle.std.specs.Prelude.{◌≡◌, ◌⊎◌, ℕ, List, Some, None, true, false};
 ghost use Rattle.serde_json.specs.Data.{Data, Num, number};
 ghost use Rattle.serde_json.specs.Find.{as_i64, as_u64};
-ghost use Rattle.plan_json.specs.Bytes.{IsRefusalOf, WritesQuery};
-ghost use Rattle.plan_json.specs.Faults.{BadFloat, BadShape, Form, own_fault};
+ghost use Rattle.plan_json.specs.Bytes.{IsRefusalOf, IsTextOf, WritesQuery};
+ghost use Rattle.plan_json.specs.Errors.{IsErrorOf};
+ghost use Rattle.plan_json.specs.Faults.{BadFloat, BadShape, Form, a_query, own_fault};
 ghost use Rattle.plan_json.specs.Looking.{is_float};
 ghost use Rattle.plan_json.specs.Queries.{QueryModel};
 ghost use Rattle.plan_json.specs.declared.error.JsonError.{JsonError};
-ghost use Rattle.plan_json.specs.declared.error.JsonError.TheVariants.{NoMemory};
+ghost use Rattle.plan_json.specs.declared.error.JsonError.TheVariants.{NoMemory, NotJson};
 
-/// Bytes write one query at most. Those that write one are refused by no error but out of memory.
+/// Bytes write one query at most. Those that write one are refused by no error but out of memory, those of a JSON text by a
+/// fault of its value, which is never that they are none, and all others because they are none.
 pub fn query_laws()
     ensures one_query { (bytes : List ℕ) (query other : QueryModel)
         → WritesQuery bytes query → WritesQuery bytes other → query ≡ other }
     ensures refused { (bytes : List ℕ) (query : QueryModel) (error : JsonError)
         → WritesQuery bytes query → IsRefusalOf bytes error → error ≡ NoMemory }
+    ensures told { (bytes : List ℕ) (d : Data) (error : JsonError)
+        → IsTextOf bytes d → IsRefusalOf bytes error → IsErrorOf a_query d error }
+    ensures not_json { (bytes : List ℕ) (d : Data) → IsTextOf bytes d → ¬ IsRefusalOf bytes NotJson }
+    ensures no_text { (bytes : List ℕ) (error : JsonError) → ((d : Data) → ¬ IsTextOf bytes d)
+        → IsRefusalOf bytes error → (error ≡ NotJson) ⊎ (error ≡ NoMemory) }
 {}
 
 /// A number that is held neither as an i64 nor as a u64 is a float, whatever its place asks for. Its fault is
