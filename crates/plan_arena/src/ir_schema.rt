@@ -40,7 +40,7 @@ impl IR {
             DenotesItem expressions arena.now self.now (node op inputs) → AllAccepted registry inputs → option_map columns schema ≡ schema_into registry op.kind inputs) }
         ensures err { IfErr result (λ error. error ≡ no_memory) }
     {
-        match self.first_input() {
+        match self.get_input() {
             Some(first) => {
                 let schema = arena.get(first).schema(alloc, arena, udfs)?;
                 Ok(Some(schema))
@@ -52,8 +52,8 @@ impl IR {
         }
     }
 
-    // The first input, if there is one.
-    fn first_input(&self) -> Option<Node>
+    /// The first input, if there is one.
+    pub fn get_input(&self) -> Option<Node>
         ensures { MatchOption result (inputs_of (plan_layer self.now) ≡ []) (λ first. slice_get (inputs_of (plan_layer self.now)) 0 ≡ Some first.0) }
     {
         match self {

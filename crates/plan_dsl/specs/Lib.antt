@@ -49,3 +49,4 @@ pub mod Typing
 pub mod ViewLaws
 pub mod WindowLaws
 pub mod Windows
+pub mod Words

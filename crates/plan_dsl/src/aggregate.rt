@@ -5,6 +5,7 @@ ghost use Rattle.plan_dsl.specs.declared.aggregate.AggExpr.TheViews.{size-AggExp
 ghost use Rattle.plan_dsl.specs.Expressions.{agg_tree, aggregated, input_tree, method_of, tree_of};
 ghost use Rattle.plan_dsl.specs.SameExpressions.{method_rank};
 ghost use Rattle.plan_dsl.specs.Sources.{same_source};
+ghost use Rattle.plan_dsl.specs.Words.{method_name};
 
 use crate::expr::Expr;
 use plan_types::error::PlanError;
@@ -57,6 +58,29 @@ pub fn method_rank(method: GroupByMethod) -> u8
         GroupByMethod::Sum => 8,
         GroupByMethod::Count { include_nulls } => { if include_nulls { 10 } else { 9 } }
         GroupByMethod::Groups => 11,
+    }
+}
+
+impl GroupByMethod {
+    /// What a query calls it.
+    pub fn name(self) -> &'static str
+        ensures { result.now ≡ method_name self }
+    {
+        match self {
+            GroupByMethod::Min => "Min",
+            GroupByMethod::NanMin => "NanMin",
+            GroupByMethod::Max => "Max",
+            GroupByMethod::NanMax => "NanMax",
+            GroupByMethod::NUnique => "NUnique",
+            GroupByMethod::First => "First",
+            GroupByMethod::Last => "Last",
+            GroupByMethod::Implode => "Implode",
+            GroupByMethod::Sum => "Sum",
+            GroupByMethod::Count { include_nulls } => {
+                if include_nulls { "CountAll" } else { "Count" }
+            }
+            GroupByMethod::Groups => "AggGroups",
+        }
     }
 }
 

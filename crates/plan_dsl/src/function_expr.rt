@@ -2,6 +2,7 @@
 ghost use Rattle.std.specs.Prelude.{◌≡◌, IfOk, IfErr};
 ghost use Rattle.plan_types.specs.Errors.{no_memory};
 ghost use Rattle.plan_dsl.specs.Functions.{apply_kind, function_flags, function_rank, is_expanded_function, same_function};
+ghost use Rattle.plan_dsl.specs.Words.{function_name};
 
 use crate::function_options::{ApplyOptions, FunctionFlags, FunctionOptions};
 use bitflags::Flags;
@@ -54,6 +55,30 @@ impl FunctionExpr {
                 Ok(FunctionExpr::FieldByName(name.try_clone(alloc)?))
             }
             FunctionExpr::FieldByIndex(place) => Ok(FunctionExpr::FieldByIndex(*place)),
+        }
+    }
+
+    /// What a query calls it.
+    pub fn name(&self) -> &'static str
+        ensures { result.now ≡ function_name self.now }
+    {
+        match self {
+            FunctionExpr::AllHorizontal => "AllHorizontal",
+            FunctionExpr::AnyHorizontal => "AnyHorizontal",
+            FunctionExpr::IsNull => "IsNull",
+            FunctionExpr::IsNotNull => "IsNotNull",
+            FunctionExpr::FillNull => "FillNull",
+            FunctionExpr::IsIn => "IsIn",
+            FunctionExpr::ShiftAndFill => "ShiftAndFill",
+            FunctionExpr::ListGet(null_on_oob) => {
+                if *null_on_oob {
+                    "ListGetOrNull"
+                } else {
+                    "ListGet"
+                }
+            }
+            FunctionExpr::FieldByName(_) => "field",
+            FunctionExpr::FieldByIndex(_) => "field_at",
         }
     }
 

@@ -1,6 +1,7 @@
 //! The report of a lowered plan, and of a refusal.
 ghost use Rattle.std.specs.Prelude.{◌≡◌, ◌++◌, string_bytes, IfOk, OnOk, Some};
 ghost use Rattle.plan_types.specs.Schemas.{columns};
+ghost use Rattle.plan_types.specs.Types.{ty};
 ghost use Rattle.plan_dsl.specs.Plans.{Plan};
 ghost use Rattle.plan_arena.specs.Denotation.{Denotes, DenotesTree};
 ghost use Rattle.plan_dsl.specs.PlanRules.{schema_of};
@@ -8,12 +9,14 @@ ghost use Rattle.plan_dsl.specs.Registry.{Registry};
 ghost use Rattle.plan_arena.specs.Items.{HoldsPlan};
 ghost use Rattle.plan_arena.specs.Runs.{IsAccepted};
 ghost use Rattle.plan_report.specs.Report.{line_text, plan_lines, casts_line, report_text, refusal_text};
+ghost use Rattle.plan_report.specs.Texts.{schema_text, type_text};
 
 use crate::casts::plan_casts;
-use crate::texts::{kind_name, push_number, push_path, push_schema};
+use crate::texts::{kind_name, push_number, push_path, push_schema, push_type};
 use plan_arena::arena::Node;
 use plan_arena::ir::IR;
 use plan_arena::plan::IRPlan;
+use plan_types::dtype::DataType;
 use plan_types::error::{Place, PlanError};
 use plan_types::schema::Schema;
 use std::alloc::{AllocError, Global};
@@ -47,6 +50,24 @@ pub fn refusal(alloc: Global, error: &PlanError) -> Result<String, AllocError>
     let steps = steps_of(alloc, &error.place)?;
     push_path(alloc, &mut text, steps.as_slice())?;
     text.push_str("\n")?;
+    Ok(text)
+}
+
+/// The text of a type, as a report has it.
+pub fn dtype_text(alloc: Global, dtype: &DataType) -> Result<String, AllocError>
+    ensures { IfOk result (λ text. string_bytes text ≡ type_text (ty dtype.now)) }
+{
+    let mut text = String::new(alloc);
+    push_type(alloc, &mut text, dtype)?;
+    Ok(text)
+}
+
+/// The text of a schema, as a report has it.
+pub fn schema_text(alloc: Global, schema: &Schema) -> Result<String, AllocError>
+    ensures { IfOk result (λ text. string_bytes text ≡ schema_text (columns schema.now)) }
+{
+    let mut text = String::new(alloc);
+    push_schema(alloc, &mut text, schema)?;
     Ok(text)
 }
 
