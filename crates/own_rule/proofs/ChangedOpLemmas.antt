@@ -12,7 +12,7 @@ use Rattle.plan_dsl.specs.Trees.{Trees, node}
 use Rattle.plan_dsl.specs.Typing.{Typed, rule, typing}
 use Rattle.plan_arena.specs.declared.aexpr.AExpr.{AExpr}
 use Rattle.plan_arena.specs.Denotation.{Denotes, DenoteAll}
-use Rattle.plan_arena.specs.Items.{HoldsExpression, expression_layer}
+use Rattle.plan_arena.specs.Items.{AreNamesOver, HoldsExpression, expression_layer}
 use Rattle.plan_arena.specs.Layers.{inputs_of, layer, shape_of}
 use Rattle.plan_arena.proofs.DenotationLemmas.{all_kept_below, denotes_one, replaced, same_or_other}
 use Rattle.plan_arena.proofs.ItemLemmas.{any_node, expression_elsewhere, expression_got, expression_laws, got_held, expression_written, held_top, within}
@@ -136,9 +136,11 @@ module _ {registry : Registry} {schema : Columns} {old : List AExpr} {table : Ty
   still_named : (n : ℕ) (t u : Expression) → GivesName old n t → label_of u ≡ label_of t → GivesName new n u
   still_named n t u name same = ⊎_elim
       (λ e.
-      let op = held_op old at name.op change.from name.inputs change.inputs (subst (λ m. HoldsExpression old m name.op name.inputs) e name.held) held in
-      record { op = change.to; inputs = change.inputs; held = subst (λ m. HoldsExpression new m change.to change.inputs) (sym e) put; gives = λ names. change.names names ∙ ap (λ o. op_label o names) (sym op) ∙ name.gives names ∙ sym same })
-      (λ other. record { op = name.op; inputs = name.inputs; held = elsewhere n name.op name.inputs other name.held; gives = λ names. name.gives names ∙ sym same })
+      let here = subst (λ m. HoldsExpression old m name.op name.inputs) e name.held in
+      let op = held_op old at name.op change.from name.inputs change.inputs here held in
+      let same_inputs = held_inputs old at name.op change.from name.inputs change.inputs here held in
+      record { op = change.to; inputs = change.inputs; held = subst (λ m. HoldsExpression new m change.to change.inputs) (sym e) put; gives = λ names over. change.names names ∙ ap (λ o. op_label o names) (sym op) ∙ name.gives names (subst (λ is. AreNamesOver is names) (sym same_inputs) over) ∙ sym same })
+      (λ other. record { op = name.op; inputs = name.inputs; held = elsewhere n name.op name.inputs other name.held; gives = λ names over. name.gives names over ∙ sym same })
       (same_or_other n at)
 
   -- so what is kept stays right, of the node itself

@@ -6,7 +6,7 @@ use Rattle.plan_dsl.specs.Ops.{Op, Expression}
 use Rattle.plan_arena.specs.declared.aexpr.AExpr.{AExpr}
 use Rattle.plan_arena.specs.Denotation.{Denotes, DenoteAll, DenotesTree, depth_at}
 use Rattle.plan_arena.specs.Layers.{layer, op_of, inputs_of, shape_of}
-use Rattle.plan_arena.specs.Items.{expression_layer, HoldsExpression}
+use Rattle.plan_arena.specs.Items.{AreNamesOver, expression_layer, HoldsExpression}
 use Rattle.plan_arena.proofs.DenotationLemmas.{some_same}
 use Rattle.plan_arena.proofs.ItemLemmas.{expression_got, expression_inputs}
 
@@ -25,6 +25,22 @@ two_labels label e f = let none : List ℕ = [] in let g : none ≡ 0 ∷ [] = a
 pub not_by_first : (name : List Label → Label) (label : Label) → ((labels : List Label) → name labels ≡ label) → ((labels : List Label) → name labels ≡ first_label labels) → ⊥
 not_by_first name label own first =
     two_labels label (sym (first (column_label [] ∷ [])) ∙ own (column_label [] ∷ [])) (sym (first (column_label (0 ∷ []) ∷ [])) ∙ own (column_label (0 ∷ []) ∷ []))
+
+-- one that has it, and that of none of its inputs, is without inputs, and is named as a literal
+pub named_as_literal : (name : List Label → Label) (inputs : List ℕ) (label : Label) → ((labels : List Label) → AreNamesOver inputs labels → name labels ≡ label) → ((labels : List Label) → name labels ≡ first_label labels) → (labels : List Label) → AreNamesOver inputs labels → name labels ≡ literal_label (codes "literal")
+named_as_literal name [] label own first labels over = first labels ∙ ap first_label over
+named_as_literal name (n ∷ ns) label own first labels over = absurd (not_by_first name label (λ others. own others tt) first)
+
+-- no names are those of inputs, where none is asked for
+pub none_over : (inputs : List ℕ) → AreNamesOver inputs []
+none_over [] = refl
+none_over (n ∷ ns) = tt
+
+-- so are the names of what inputs denote
+pub labels_over : (items : List AExpr) (inputs : List ℕ) (ts : Trees Op) → DenoteAll (HoldsExpression items) inputs ts → AreNamesOver inputs (fold_all op_label ts)
+labels_over items [] no_more d = refl
+labels_over items [] (more t ts) d = absurd d
+labels_over items (n ∷ ns) ts d = tt
 
 module _ (items : List AExpr) (n : ℕ) (item : AExpr) (got : slice_get items n ≡ Some item) where
   held : (op : Op) (inputs : List ℕ) → HoldsExpression items n op inputs → expression_layer item ≡ layer op inputs

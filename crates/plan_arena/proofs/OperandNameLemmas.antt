@@ -23,15 +23,15 @@ use Rattle.plan_arena.specs.Runs.{AllNameOperands, AreNamesFor, NamesOperands}
 
 -- ---- a query's expression records none
 
-abbrev RecordsNone : Op → Type 0
+abbrev pub RecordsNone : Op → Type 0
 RecordsNone (FunctionOp function (label ∷ recorded)) = ⊥
 RecordsNone op = Unit {0}
 
 abbrev mutual
-  HasNone : Expression → Type 0
+  pub HasNone : Expression → Type 0
   HasNone (node op children) = RecordsNone op × AllHaveNone children
 
-  AllHaveNone : Trees Op → Type 0
+  pub AllHaveNone : Trees Op → Type 0
   AllHaveNone no_more = Unit {0}
   AllHaveNone (more child rest) = HasNone child × AllHaveNone rest
 
@@ -40,7 +40,7 @@ function_none (FieldByIndex place) inputs h = (tt, tt)
 function_none function inputs h = (tt, h)
 
 mutual
-  expr_none : (expr : Expr) → HasNone (plain_tree expr)
+  pub expr_none : (expr : Expr) → HasNone (plain_tree expr)
   expr_none (BinaryExpr' p left operator q right) = (tt, (expr_none left, (expr_none right, tt)))
   expr_none (Cast' p expr dtype options) = (tt, (expr_none expr, tt))
   expr_none (Slice' p input q offset r length) = (tt, (expr_none input, (expr_none offset, (expr_none length, tt))))

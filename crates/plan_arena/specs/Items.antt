@@ -37,6 +37,11 @@ abbrev pub ordered : Option (Node × SortOptions) → Option SortOptions
 ordered None = None
 ordered (Some order) = Some order.1
 
+-- names that inputs can have: without an input there is none
+abbrev pub AreNamesOver : List ℕ → List Label → Type 0
+AreNamesOver [] names = names ≡ []
+AreNamesOver (n ∷ ns) names = Unit {0}
+
 -- the name of an output, with what it comes from
 abbrev pub output_label : OutputName → Label
 output_label Unnamed = record { name = []; origin = FromNothing }

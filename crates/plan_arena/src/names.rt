@@ -6,8 +6,8 @@ ghost use Rattle.plan_dsl.specs.Names.{Label, first_label, function_label, label
 ghost use Rattle.plan_dsl.specs.Aliases.{is_core_op};
 ghost use Rattle.plan_dsl.specs.Ops.{AliasOp, Expression};
 ghost use Rattle.plan_arena.specs.Denotation.{Denotes, DenotesTree};
-ghost use Rattle.plan_arena.specs.Items.{expression_layer, named_node, output_label, recorded, HoldsExpression};
-ghost use Rattle.plan_arena.specs.Layers.{layer, op_of};
+ghost use Rattle.plan_arena.specs.Items.{AreNamesOver, expression_layer, named_node, output_label, recorded, HoldsExpression};
+ghost use Rattle.plan_arena.specs.Layers.{inputs_of, layer, op_of};
 
 use crate::aexpr::AExpr;
 use crate::arena::{Arena, Node};
@@ -55,16 +55,16 @@ impl AExpr {
         }
     }
 
-    /// The name of a node that has one of its own.
+    /// The name of a node that hasn't that of an input: one of its own, or without inputs that of a literal.
     pub fn given_name(&self, alloc: Global) -> Result<OutputName, PlanError>
-        requires { (label : Label) × ((labels : List Label) → op_label (op_of (expression_layer self.now)) labels ≡ label) }
-        ensures ok { IfOk result (λ name. (labels : List Label) → op_label (op_of (expression_layer self.now)) labels ≡ output_label name) }
+        requires { (label : Label) × ((labels : List Label) → AreNamesOver (inputs_of (expression_layer self.now)) labels → op_label (op_of (expression_layer self.now)) labels ≡ label) }
+        ensures ok { IfOk result (λ name. (labels : List Label) → AreNamesOver (inputs_of (expression_layer self.now)) labels → op_label (op_of (expression_layer self.now)) labels ≡ output_label name) }
         ensures set { IfOk result (λ name. name ≢ OutputName.None) }
         ensures err { IfErr result (λ error. error ≡ no_memory) }
     {
         match self.own_name(alloc)? {
             Some(name) => Ok(name),
-            None => unreachable!(),
+            None => literal_name(alloc),
         }
     }
 }

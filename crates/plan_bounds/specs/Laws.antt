@@ -1,7 +1,11 @@
 -- Bounds on what coercion adds to an expression.
 use Rattle.std.specs.Prelude.{◌≡◌, ◌≤◌, ◌+◌, ℕ, List, length, Ok, sum_by, IsTrue}
+use Rattle.std.specs.List.{AllByRecursion}
 use Rattle.plan_types.specs.Schemas.{Columns}
+use Rattle.plan_dsl.specs.declared.expr.Expr.{Expr}
+use Rattle.plan_dsl.specs.Aliases.{core}
 use Rattle.plan_dsl.specs.Counts.{expression_casts, outputs_casts}
+use Rattle.plan_dsl.specs.Expressions.{plain_tree}
 use Rattle.plan_dsl.specs.Literals.{settled}
 use Rattle.plan_dsl.specs.Ops.{Expression}
 use Rattle.plan_dsl.specs.Plans.{Named}
@@ -30,11 +34,15 @@ AddsNoIdleCast =
     (registry : Registry) (schema : Columns) (tree : Expression) (typed : Typed) → typing registry schema tree ≡ Ok typed
     → idle_casts registry schema (written_out registry schema tree) ≤ idle_casts registry schema tree
 
--- and no horizontal but wide ones, as before
+-- and no horizontal but wide ones where there was no other
 abbrev pub LeavesWideHorizontals : Type 0
 LeavesWideHorizontals =
     (registry : Registry) (schema : Columns) (tree : Expression) (typed : Typed) → typing registry schema tree ≡ Ok typed
-    → IsTrue (has_wide_horizontals tree) × IsTrue (has_wide_horizontals (written_out registry schema tree))
+    → IsTrue (has_wide_horizontals tree) → IsTrue (has_wide_horizontals (written_out registry schema tree))
+
+-- there is no other in a query's expression as a plan takes it
+abbrev pub TakenHorizontalsAreWide : Type 0
+TakenHorizontalsAreWide = (expr : Expr) → IsTrue (has_wide_horizontals (settled (core (plain_tree expr))))
 
 -- a number without a type at the top that gets one, as a plan's node takes it, adds no cast, no node and no idle cast
 abbrev pub SettlingAddsNothing : Type 0
@@ -53,6 +61,10 @@ SplittingKeepsCasts = (predicate : Named Expression) → outputs_casts (split_pr
 -- no more other nodes
 abbrev pub SplittingAddsNoNode : Type 0
 SplittingAddsNoNode = (predicate : Named Expression) → in_all other_nodes (split_predicate predicate) ≤ other_nodes predicate.expression
+
+-- no horizontal but wide ones where there was no other
+abbrev pub SplittingLeavesWideHorizontals : Type 0
+SplittingLeavesWideHorizontals = (predicate : Named Expression) → IsTrue (has_wide_horizontals predicate.expression) → AllByRecursion (λ part. IsTrue (has_wide_horizontals part.expression)) (split_predicate predicate)
 
 -- with a filter for each part of a condition in place of one, no more nodes at all
 abbrev pub SplittingKeepsSize : Type 0

@@ -4,13 +4,8 @@ use Rattle.plan_dsl.specs.Counts.{cast_count}
 use Rattle.plan_dsl.specs.Plans.{Plan}
 use Rattle.plan_dsl.specs.Registry.{Registry}
 use Rattle.plan_arena.specs.Runs.{IsStrictPlan}
-use Rattle.plan_bounds.specs.LoweredPlans.{IsWidePlan}
 use Rattle.plan_bounds.specs.PlanCounts.{plan_needs}
 
 -- it needs no casts but those that it has
 abbrev pub StrictPlansHaveNeededCasts : Type 0
 StrictPlansHaveNeededCasts = (registry : Registry) (plan : Plan) → IsStrictPlan registry plan → plan_needs registry plan ≡ cast_count plan
-
--- and each horizontal in it is wide
-abbrev pub StrictPlansAreWide : Type 0
-StrictPlansAreWide = (registry : Registry) (plan : Plan) → IsStrictPlan registry plan → IsWidePlan plan

@@ -137,7 +137,7 @@ pub fn expressions_over_inputs()
     ensures number_under_an_alias { settled_needs [] two_columns (alias "x" five) ≡ 0 }
 {}
 
-/// A horizontal over 128 operands is wide, and one over fewer is in no expression that is typed: it is written out. Other
+/// A horizontal over 128 operands is wide, and one over fewer is in no expression that a plan takes: it is written out. Other
 /// nodes aren't asked.
 pub fn wide_horizontals()
     ensures over_many { map (is_wide (FunctionOp AllHorizontal [])) (0 ∷ 1 ∷ 127 ∷ 128 ∷ 300 ∷ []) ≡ false ∷ false ∷ false ∷ true ∷ true ∷ [] }

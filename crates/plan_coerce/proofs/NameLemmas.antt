@@ -66,7 +66,7 @@ module _ (registry : Registry) (schema : Columns) where
   labels_same (more t ts) no_more a = absurd a
 
   -- what a node with a rule is over
-  fitted_typed : (op : Op) (ts us : Trees Op) (typed : List Typed) (ruling : Ruling) → typing_all registry schema ts ≡ Ok typed → rule registry schema op typed ≡ Ok ruling → fitted registry schema op (typing_all registry schema ts) us ≡ as_operands (types_of typed) ruling.operands us
+  pub fitted_typed : (op : Op) (ts us : Trees Op) (typed : List Typed) (ruling : Ruling) → typing_all registry schema ts ≡ Ok typed → rule registry schema op typed ≡ Ok ruling → fitted registry schema op (typing_all registry schema ts) us ≡ as_operands (types_of typed) ruling.operands us
   fitted_typed op ts us typed ruling h rules = ap (λ r. fitted registry schema op r us) h ∙ ap (λ r. fitted_by r (types_of typed) us) rules
 
   -- with every cast written out an expression says the same
@@ -80,7 +80,7 @@ module _ (registry : Registry) (schema : Columns) where
         subst (λ os. IsSame registry schema (node op ts) (node op os)) (sym (fitted_typed op ts us p.below p.ruling p.children_typed p.rules))
         (same_then registry schema (node op ts) (node op us) _ (node_same registry schema op ts us each) (operands_same registry schema op us p.below there p.ruling p.rules))
 
-    all_coerced_same : (trees : Trees Op) (typed : List Typed) → typing_all registry schema trees ≡ Ok typed → AllRelated (IsSame registry schema) trees (coerced_all registry schema trees)
+    pub all_coerced_same : (trees : Trees Op) (typed : List Typed) → typing_all registry schema trees ≡ Ok typed → AllRelated (IsSame registry schema) trees (coerced_all registry schema trees)
     all_coerced_same no_more typed h = tt
     all_coerced_same (more tree trees) typed h =
         by_children (λ _. AllRelated (IsSame registry schema) (more tree trees) (coerced_all registry schema (more tree trees))) _ _ typed h (λ t ts first rest. (coerced_same tree t first, all_coerced_same trees ts rest))

@@ -12,7 +12,7 @@ use Rattle.plan_types.specs.declared.dtype.DataType.{DataType}
 use Rattle.plan_types.specs.declared.dtype.CastOptions.TheVariants.{NonStrict}
 use Rattle.plan_dsl.specs.declared.literal.LiteralValue.{LiteralValue}
 use Rattle.plan_dsl.specs.Registry.{Registry}
-use Rattle.plan_dsl.specs.Names.{label_of}
+use Rattle.plan_dsl.specs.Names.{Label, label_of}
 use Rattle.plan_dsl.specs.Trees.{node, no_more, more}
 use Rattle.plan_dsl.specs.Ops.{Op, CastOp, AliasOp, Expression}
 use Rattle.plan_dsl.specs.Literals.{literal_op, literal_type, literal_value, is_literal}
@@ -28,7 +28,7 @@ use Rattle.plan_arena.specs.declared.aexpr.AExpr.{AExpr}
 use Rattle.plan_arena.specs.declared.aexpr.AExpr.TheVariants.{Literal, Cast, Alias}
 use Rattle.plan_arena.specs.Denotation.{Denotes, DenotesTree}
 use Rattle.plan_arena.specs.Layers.{layer, shape_of, inputs_of, op_of}
-use Rattle.plan_arena.specs.Items.{HoldsExpression, HoldsFrom, Grows, Rewired, expression_layer}
+use Rattle.plan_arena.specs.Items.{AreNamesOver, HoldsExpression, HoldsFrom, Grows, Rewired, expression_layer}
 use Rattle.plan_arena.proofs.DenotationLemmas.{same_or_other}
 use Rattle.plan_arena.proofs.ItemLemmas.{expression_laws, any_node, from_zero, expression_elsewhere, expression_written, expression_added, tree_grown, grown_held, tree_within}
 use Rattle.plan_infer.specs.declared.type_table.Inferred.{Inferred}
@@ -49,25 +49,37 @@ elsewhere_kept old new at ms rew n op inputs other h =
 
 -- ---- an item that is written over other inputs
 
+-- names of inputs are those of as many others
+over_as_many : (ms ns : List ℕ) (names : List Label) → length ms ≡ length ns → AreNamesOver ms names → AreNamesOver ns names
+over_as_many [] [] names many over = over
+over_as_many ms (n ∷ ns) names many over = tt
+over_as_many (m ∷ ms) [] names many over = cc
+
 -- what gives an expression its name does so still
-names_written : (old new : List AExpr) (at : ℕ) (op : Op) (ns ms : List ℕ) → HoldsExpression old at op ns → HoldsExpression new at op ms → ((n : ℕ) (op : Op) (inputs : List ℕ) → n ≢ at → HoldsExpression old n op inputs → HoldsExpression new n op inputs) → (n : ℕ) (t w : Expression) → GivesName old n t → label_of w ≡ label_of t → GivesName new n w
-names_written old new at op ns ms before after elsewhere n t w name same = ⊎_elim
+names_written : (old new : List AExpr) (at : ℕ) (op : Op) (ns ms : List ℕ) → length ms ≡ length ns → HoldsExpression old at op ns → HoldsExpression new at op ms → ((n : ℕ) (op : Op) (inputs : List ℕ) → n ≢ at → HoldsExpression old n op inputs → HoldsExpression new n op inputs) → (n : ℕ) (t w : Expression) → GivesName old n t → label_of w ≡ label_of t → GivesName new n w
+names_written old new at op ns ms many before after elsewhere n t w name same = ⊎_elim
     (λ e.
     let here = subst (λ m. HoldsExpression old m name.op name.inputs) e name.held in
     let is = held_op old at op name.op ns name.inputs before here in
-    record { op = name.op; inputs = ms; held = subst (λ o. HoldsExpression new n o ms) is (subst (λ m. HoldsExpression new m op ms) (sym e) after); gives = λ names. name.gives names ∙ sym same })
-    (λ differs. record { op = name.op; inputs = name.inputs; held = elsewhere n name.op name.inputs differs name.held; gives = λ names. name.gives names ∙ sym same })
+    let inputs = held_inputs old at op name.op ns name.inputs before here in
+    record {
+      op = name.op;
+      inputs = ms;
+      held = subst (λ o. HoldsExpression new n o ms) is (subst (λ m. HoldsExpression new m op ms) (sym e) after);
+      gives = λ names over. name.gives names (subst (λ is. AreNamesOver is names) inputs (over_as_many ms ns names many over)) ∙ sym same;
+    })
+    (λ differs. record { op = name.op; inputs = name.inputs; held = elsewhere n name.op name.inputs differs name.held; gives = λ names over. name.gives names over ∙ sym same })
     (same_or_other n at)
 
 -- what is kept stays right where one item is written
 module _ (registry : Registry) (schema : Columns) (old new : List AExpr) (table : TypeTable) (at : ℕ) (op : Op) (ns ms : List ℕ) (before : Expression) where
-  right_written : Denotes (HoldsFrom 0 old) at before → DenotesSame registry schema 0 new at before → ((n : ℕ) (op : Op) (inputs : List ℕ) → n ≢ at → HoldsExpression old n op inputs → HoldsExpression new n op inputs) → HoldsExpression old at op ns → HoldsExpression new at op ms → AllByRecursion (IsKept table) ms → ((own : Inferred) → KeepsEntry table at own → (typed : List Typed) (ruling : Ruling) → AllKept table ms typed → rule registry schema op typed ≡ Ok ruling → AreOperands (map ty own.operands) (types_of typed) ruling.operands) → IsRight registry schema old table → IsRight registry schema new table
-  right_written d same elsewhere was held known operands right = record {
+  right_written : length ms ≡ length ns → Denotes (HoldsFrom 0 old) at before → DenotesSame registry schema 0 new at before → ((n : ℕ) (op : Op) (inputs : List ℕ) → n ≢ at → HoldsExpression old n op inputs → HoldsExpression new n op inputs) → HoldsExpression old at op ns → HoldsExpression new at op ms → AllByRecursion (IsKept table) ms → ((own : Inferred) → KeepsEntry table at own → (typed : List Typed) (ruling : Ruling) → AllKept table ms typed → rule registry schema op typed ≡ Ok ruling → AreOperands (map ty own.operands) (types_of typed) ruling.operands) → IsRight registry schema old table → IsRight registry schema new table
+  right_written many d same elsewhere was held known operands right = record {
     each = λ n own k.
         let e = right.each n own k in
         let r = becomes registry schema 0 old new at before d same elsewhere n e.tree (from_zero old n e.tree e.denotes) in
         let there = any_node 0 new n r.0 r.1 in
-        let name = names_written old new at op ns ms was held elsewhere own.name.0 e.tree r.0 e.name r.2.same.name in
+        let name = names_written old new at op ns ms many was held elsewhere own.name.0 e.tree r.0 e.name r.2.same.name in
         ⊎_elim
         (λ here. record {
           tree = r.0;
@@ -93,12 +105,12 @@ node_within items n op inputs h =
     omega (arith, (expression_laws items).below n op inputs h, short)
 
 -- a node that was written over other inputs: what is right stays so, where something is kept of them
-right_over : (registry : Registry) (schema : Columns) (old new final : List AExpr) (table : TypeTable) (at : ℕ) (op : Op) (ns ms : List ℕ) → HoldsExpression old at op ns → Grows old new → Rewired new final at ms → (d : DenotesTyped registry schema 0 old at) → DenotesSame registry schema 0 final at d.tree → AllByRecursion (IsKept table) ms → ((own : Inferred) → KeepsEntry table at own → (typed : List Typed) (ruling : Ruling) → AllKept table ms typed → rule registry schema op typed ≡ Ok ruling → AreOperands (map ty own.operands) (types_of typed) ruling.operands) → IsRight registry schema new table → IsRight registry schema final table
-right_over registry schema old new final table at op ns ms held g rew d same below operands right =
+right_over : (registry : Registry) (schema : Columns) (old new final : List AExpr) (table : TypeTable) (at : ℕ) (op : Op) (ns ms : List ℕ) → length ms ≡ length ns → HoldsExpression old at op ns → Grows old new → Rewired new final at ms → (d : DenotesTyped registry schema 0 old at) → DenotesSame registry schema 0 final at d.tree → AllByRecursion (IsKept table) ms → ((own : Inferred) → KeepsEntry table at own → (typed : List Typed) (ruling : Ruling) → AllKept table ms typed → rule registry schema op typed ≡ Ok ruling → AreOperands (map ty own.operands) (types_of typed) ruling.operands) → IsRight registry schema new table → IsRight registry schema final table
+right_over registry schema old new final table at op ns ms many held g rew d same below operands right =
     let before = grown_held old new g at op ns held in
     let is = item_is old new final at op ns ms held g rew in
     let here : HoldsExpression (set new at rew.after) at op ms = expression_written new at rew.after (node_within new at op ns before) ∙ ap Some is in
-    right_written registry schema new final table at op ns ms d.tree (tree_grown 0 0 old new zero-le g at d.tree d.denotes) same (λ n o inputs other h. elsewhere_kept new final at ms rew n o inputs other h) before (subst (λ items. HoldsExpression items at op ms) (sym rew.items) here) below operands right
+    right_written registry schema new final table at op ns ms d.tree many (tree_grown 0 0 old new zero-le g at d.tree d.denotes) same (λ n o inputs other h. elsewhere_kept new final at ms rew n o inputs other h) before (subst (λ items. HoldsExpression items at op ms) (sym rew.items) here) below operands right
 
 -- operands that were changed have the types to which they are taken
 module _ (registry : Registry) (schema : Columns) (old new : List AExpr) (table table' : TypeTable) (right : IsRight registry schema old table) (right' : IsRight registry schema new table') where
@@ -162,7 +174,7 @@ right_alias registry schema old new table table' input n name from own grown at 
     let tree : DenotesTree (HoldsExpression new) n.0 = record { tree = node (AliasOp name) (more below.tree no_more); denotes = (input.0 ∷ [], held, (below.denotes, tt)) } in
     let is : typed_of from ≡ typed_of own = λ i. record { type = sym same i; many = sym many i } in
     let ruled : IsRuled registry schema (AliasOp name) (typed_of from ∷ []) own = record { ruling = aliased (typed_of from); rules = refl; is = is; operands = inr (ap (map ty) none, refl) } in
-    right_added registry schema old new table table' n.0 (Alias input name) (AliasOp name) (input.0 ∷ []) own grown at refl stays only tree (record { own = from; keeps = keeps }, tt) (λ typed k. subst (λ ts. IsRuled registry schema (AliasOp name) ts own) (kept_one table (input.0 ∷ []) (typed_of from ∷ []) typed (record { own = from; keeps = keeps; is = refl }, tt) k) ruled) (by_itself (ap (λ (m : Node). m.0) called) (λ names. refl)) right
+    right_added registry schema old new table table' n.0 (Alias input name) (AliasOp name) (input.0 ∷ []) own grown at refl stays only tree (record { own = from; keeps = keeps }, tt) (λ typed k. subst (λ ts. IsRuled registry schema (AliasOp name) ts own) (kept_one table (input.0 ∷ []) (typed_of from ∷ []) typed (record { own = from; keeps = keeps; is = refl }, tt) k) ruled) (by_itself (ap (λ (m : Node). m.0) called) (λ names over. refl)) right
 
 -- a literal that was added
 pub right_literal : (registry : Registry) (schema : Columns) (old new : List AExpr) (table table' : TypeTable) (n : Node) (value : LiteralValue) (own : Inferred) → new ≡ old ++ Literal value ∷ [] → n.0 ≡ length old → ty own.dtype ≡ literal_type value → own.name ≡ n → own.many ≡ false → own.operands ≡ [] → is_literal (literal_type value) (literal_value value) ≡ true → ((n : ℕ) (other : Inferred) → KeepsEntry table n other → KeepsEntry table' n other) → ((m : ℕ) (other : Inferred) → KeepsEntry table' m other → KeepsEntry table m other ⊎ ((m ≡ n.0) × (other ≡ own))) → IsRight registry schema old table → IsRight registry schema new table'
@@ -171,7 +183,7 @@ right_literal registry schema old new table table' n value own grown at same nam
     let tree : DenotesTree (HoldsExpression new) n.0 = record { tree = node (literal_op value) no_more; denotes = ([], held, tt) } in
     let taken : literal_taken (literal_type value) (literal_value value) ≡ Ok (record { operands = []; type = literal_type value }) = ap (λ b. cond b (Ok (record { operands = []; type = literal_type value })) (Err InvalidOperation)) literal in
     let ruled = literal_ruled registry schema (literal_type value) (literal_value value) own (taken ∙ ap (λ t. Ok (record { operands = []; type = t })) (sym same)) many none in
-    right_added registry schema old new table table' n.0 (Literal value) (literal_op value) [] own grown at refl stays only tree tt (λ typed k. subst (λ ts. IsRuled registry schema (literal_op value) ts own) (kept_one table [] [] typed tt k) ruled) (by_itself (ap (λ (m : Node). m.0) name) (λ names. refl)) right
+    right_added registry schema old new table table' n.0 (Literal value) (literal_op value) [] own grown at refl stays only tree tt (λ typed k. subst (λ ts. IsRuled registry schema (literal_op value) ts own) (kept_one table [] [] typed tt k) ruled) (by_itself (ap (λ (m : Node). m.0) name) (λ names over. refl)) right
 
 -- the types of the nodes that wait are kept, when the last was visited and its inputs took its place
 pub waiting_known : (items' : List AExpr) (table table' : TypeTable) (at : ℕ) (rest stack : List ℕ) → AllByRecursion (IsKept table) (rest ++ at ∷ []) → Extends table table' → HasRightTypes items' table' → ((op : Op) (inputs : List ℕ) → HoldsExpression items' at op inputs → stack ≡ rest ++ reverse inputs) → AllByRecursion (IsKept table') stack
@@ -193,7 +205,8 @@ right_rewritten registry schema old new final table table' at item own ms right 
     let d = known_typed registry schema old table right at (record { own = own; keeps = k }) in
     let made = rewritten registry schema old new final table at item ms (map ty own.operands) right got g c takes rew 0 d.tree d.typed zero-le d.denotes d.is in
     let operands = operands_after registry schema old new table table' right now at item own ms got k takes c in
-    right_over registry schema old new final table' at (op_of (expression_layer item)) (inputs_of (expression_layer item)) ms (layer_held old at item got) g rew d (rewritten_same registry schema 0 final at d.tree d.typed made) below (λ other k' typed ruling kept rules. subst (λ (x : Inferred). AreOperands (map ty x.operands) (types_of typed) ruling.operands) (keeps_one table' at own other (extends.entries at own k) k') (operands typed ruling kept rules)) now
+    let many = sym (ap length c.changed_are) ∙ length-map c.operands (λ (o : Operand). o.changed) ∙ sym (length-map c.operands (λ (o : Operand). o.input)) ∙ ap length c.inputs_are in
+    right_over registry schema old new final table' at (op_of (expression_layer item)) (inputs_of (expression_layer item)) ms many (layer_held old at item got) g rew d (rewritten_same registry schema 0 final at d.tree d.typed made) below (λ other k' typed ruling kept rules. subst (λ (x : Inferred). AreOperands (map ty x.operands) (types_of typed) ruling.operands) (keeps_one table' at own other (extends.entries at own k) k') (operands typed ruling kept rules)) now
 
 -- a literal that was added has its type
 pub literal_kept : (registry : Registry) (schema : Columns) (items : List AExpr) (table : TypeTable) (n : ℕ) (value : LiteralValue) (k : IsKept table n) → Denotes (HoldsExpression items) n (node (literal_op value) no_more) → is_literal (literal_type value) (literal_value value) ≡ true → IsRight registry schema items table → ty k.own.dtype ≡ literal_type value

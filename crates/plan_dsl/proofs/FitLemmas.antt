@@ -50,7 +50,7 @@ module _ (registry : Registry) (frame : Frame) (of : IsFrame frame) where
         subst (λ own. MeansType own (meaning registry frame (node op children))) p.is
         (subst (MeansType p.ruling.own) (sym is) (keeps.gives frame refl of (taken_to (types_of p.below) p.ruling.operands ms) mean))
 
-    meanings_have_types : (trees : Trees Op) (typed : List Typed) → typing_all registry frame.schema trees ≡ Ok typed → AllMean typed (meaning_all registry frame trees)
+    pub meanings_have_types : (trees : Trees Op) (typed : List Typed) → typing_all registry frame.schema trees ≡ Ok typed → AllMean typed (meaning_all registry frame trees)
     meanings_have_types no_more typed h = by_no_children (λ ts. AllMean ts []) typed h tt
     meanings_have_types (more tree trees) typed h =
         by_children (λ ts. AllMean ts (meaning registry frame tree ∷ meaning_all registry frame trees)) _ _ typed h (λ t ts first rest. (meaning_has_type tree t first, meanings_have_types trees ts rest))

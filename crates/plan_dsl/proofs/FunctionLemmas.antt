@@ -1,5 +1,5 @@
 -- What ternaries and functions give of operands that fit, where they have a signature: values of their own type.
-use Rattle.std.proofs.Common.{◌≡◌, ◌∙◌, ℕ, zero, suc, nat_lt, ℤ, pos, negsuc, Bool, true, false, cond, List, [], ◌∷◌, ◌++◌, length, map, replicate, drop, Ok, Err, IsTrue, refl, sym, ap, subst}
+use Rattle.std.proofs.Common.{◌≡◌, ◌∙◌, ℕ, zero, suc, ℤ, pos, negsuc, Bool, true, false, cond, List, [], ◌∷◌, ◌++◌, length, map, replicate, drop, Ok, Err, IsTrue, refl, sym, subst}
 use Rattle.std.specs.Prelude.{min, slice_get}
 use Rattle.std.proofs.lemmas.Bool.{and_parts}
 use Rattle.plan_types.specs.Types.{Ty, Truth, ListType}
@@ -19,16 +19,14 @@ use Rattle.plan_dsl.specs.declared.signature.Ask.TheVariants.{Boolean}
 use Rattle.plan_dsl.specs.declared.signature.Many.TheVariants.{WhereAny}
 use Rattle.plan_dsl.specs.declared.signature.Sharing.TheVariants.{Alone}
 use Rattle.plan_dsl.specs.declared.signature.Signature.{Signature}
-use Rattle.plan_types.specs.declared.error.ErrorKind.{ErrorKind}
-use Rattle.plan_types.specs.declared.error.ErrorKind.TheVariants.{ComputeError}
-use Rattle.plan_dsl.specs.Signatures.{asked_at, asked_target, asks, is_list, least_horizontal, own_type}
+use Rattle.plan_dsl.specs.Signatures.{asked_at, asked_target, asks, horizontal_ask, is_list, own_type}
 use Rattle.plan_dsl.specs.Slices.{slice_start}
 use Rattle.plan_dsl.specs.Typing.{Typed, types_of}
 use Rattle.plan_dsl.proofs.BitLemmas.{both_keeps, either_keeps}
 use Rattle.plan_dsl.proofs.ColumnLemmas.{AreAllOf, dropped_fit, one_value, replicate_fits, taken_fit}
 use Rattle.plan_dsl.proofs.PickLemmas.{items_in_fit, joined_fit}
 use Rattle.plan_dsl.proofs.RowLemmas.{RowIs, by_row_fits}
-use Rattle.plan_dsl.proofs.SignatureLemmas.{KernelGives, OnAsked, OnSigned}
+use Rattle.plan_dsl.proofs.SignatureLemmas.{KernelGives, OnAsked}
 
 -- one of two values that fit
 either_fits : (test : Bool) (x y : Val) (type : Ty) → IsTrue (fits x type) → IsTrue (fits y type) → IsTrue (fits (cond test x y) type)
@@ -136,25 +134,23 @@ any_true_fits [] truths (value ∷ row) of = absurd of
 any_true_fits (t ∷ ts) truths [] of = absurd of
 any_true_fits (t ∷ ts) truths (value ∷ row) of = either_keeps Truth value (any_true row) (subst (λ type. IsTrue (fits value type)) truths.0 of.0) (any_true_fits ts truths.1 row of.1)
 
--- of each operand truth values are asked
-abbrev truths_asked : Signature
-truths_asked = record { first = asks Boolean; second = asks Boolean; rest = asks Boolean; own = Truths; many = WhereAny; sharing = Alone }
+-- of each operand truth values are asked, and of one alone what can be cast to them
+abbrev truths_asked : ℕ → Signature
+truths_asked count = record { first = asks (horizontal_ask count); second = asks Boolean; rest = asks Boolean; own = Truths; many = WhereAny; sharing = Alone }
 
-truth_at : (place : ℕ) → asked_at truths_asked place ≡ asks Boolean
-truth_at zero = refl
-truth_at (suc zero) = refl
-truth_at (suc (suc place)) = refl
+truth_at : (count place : ℕ) (type : Ty) → asked_target (asked_at (truths_asked count) place).ask type ≡ Truth
+truth_at zero zero type = refl
+truth_at (suc zero) zero type = refl
+truth_at (suc (suc count)) zero type = refl
+truth_at count (suc zero) type = refl
+truth_at count (suc (suc place)) type = refl
 
-on_truths : (shared : Ty) (place : ℕ) (typed : List Typed) (P : List (List Val) → Type 0) → (AllTruths typed → (columns : List (List Val)) → AreAllOf typed columns → P columns) → OnAsked shared truths_asked place typed P
-on_truths shared place [] P h = h tt [] tt
-on_truths shared place (t ∷ ts) P h = λ column i.
-    on_truths shared (suc place) ts (λ columns. P (column ∷ columns)) (λ truths columns of. h (sym (ap (λ asked. asked_target asked.ask t.type) (sym (truth_at place)) ∙ i.kept refl), truths) (column ∷ columns) (i.of, of))
+on_truths : (shared : Ty) (count place : ℕ) (typed : List Typed) (P : List (List Val) → Type 0) → (AllTruths typed → (columns : List (List Val)) → AreAllOf typed columns → P columns) → OnAsked shared (truths_asked count) place typed P
+on_truths shared count place [] P h = h tt [] tt
+on_truths shared count place (t ∷ ts) P h = λ column i.
+    on_truths shared count (suc place) ts (λ columns. P (column ∷ columns)) (λ truths columns of. h (sym (i.kept refl) ∙ truth_at count place t.type, truths) (column ∷ columns) (i.of, of))
 
 -- ---- by function
-
-unless_signed : (test : Bool) (signature : Signature) (kind : ErrorKind) (P : Signature → Type 0) → P signature → OnSigned (cond test (Err kind) (Ok signature)) P
-unless_signed true signature kind P h = tt
-unless_signed false signature kind P h = h
 
 pub function_gives : (function : FunctionExpr) (recorded : List Label) → KernelGives (FunctionOp function recorded)
 function_gives IsNull recorded registry frame rows shared (t ∷ []) = λ values a.
@@ -169,7 +165,7 @@ function_gives ShiftAndFill recorded registry frame rows shared (t ∷ n ∷ u �
 function_gives (ListGet null_on_oob) recorded registry frame rows shared (t ∷ u ∷ []) = λ values a indices b.
     by_row_fits (t ∷ u ∷ []) (own_type Item t.type) (list_item null_on_oob) (items_fit_rows null_on_oob t u (a.passes refl)) (values ∷ indices ∷ []) (a.of, (b.of, tt))
 function_gives AllHorizontal recorded registry frame rows shared typed =
-    unless_signed (nat_lt (length typed) least_horizontal) truths_asked ComputeError _ (on_truths shared 0 typed _ (λ truths columns of. by_row_fits typed Truth (function_value AllHorizontal (types_of typed)) (all_true_fits typed truths) columns of))
+    on_truths shared (length typed) 0 typed _ (λ truths columns of. by_row_fits typed Truth (function_value AllHorizontal (types_of typed)) (all_true_fits typed truths) columns of)
 function_gives AnyHorizontal recorded registry frame rows shared typed =
-    unless_signed (nat_lt (length typed) least_horizontal) truths_asked ComputeError _ (on_truths shared 0 typed _ (λ truths columns of. by_row_fits typed Truth (function_value AnyHorizontal (types_of typed)) (any_true_fits typed truths) columns of))
+    on_truths shared (length typed) 0 typed _ (λ truths columns of. by_row_fits typed Truth (function_value AnyHorizontal (types_of typed)) (any_true_fits typed truths) columns of)
 function_gives _ recorded registry frame rows shared _ = tt

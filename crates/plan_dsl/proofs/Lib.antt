@@ -4,8 +4,11 @@ pub mod ArithmeticLemmas
 pub mod BitLemmas
 pub mod CastLemmas
 pub mod CastMeaningLemmas
+pub mod ChainColumnLemmas
+pub mod ChainLemmas
 pub mod ColumnLemmas
 pub mod ComparisonLemmas
+pub mod CoreLemmas
 pub mod DropLemmas
 pub mod ExpansionLemmas
 pub mod ExprLemmas

@@ -13,7 +13,7 @@ use Rattle.plan_types.proofs.CastLemmas.{cast_own as own_cast}
 use Rattle.plan_types.proofs.SupertypeLemmas.{some_same}
 use Rattle.std.proofs.lemmas.Bool.{and_parts, and_from}
 use Rattle.plan_dsl.specs.declared.signature.Ask.{Ask}
-use Rattle.plan_dsl.specs.declared.signature.Ask.TheVariants.{Any, Sortable, Boolean, Place, Length, Summable, Listed}
+use Rattle.plan_dsl.specs.declared.signature.Ask.TheVariants.{Any, Sortable, Boolean, Castable, Place, Length, Summable, Listed}
 use Rattle.plan_dsl.specs.declared.signature.Asked.{Asked}
 use Rattle.plan_dsl.specs.declared.signature.OwnType.{OwnType}
 use Rattle.plan_dsl.specs.declared.signature.OwnType.TheVariants.{First, Item, ListOf, Count, Total, Rows, Truths}
@@ -88,6 +88,7 @@ asked_casts Summable type k h = own_cast type k
 asked_casts Listed type k h = own_cast type k
 asked_casts Boolean NullType k h = refl
 asked_casts Boolean Truth k h = refl
+asked_casts Castable type k h = h
 asked_casts Place (Integer signed bits) k h = refl
 asked_casts Length NullType k h = refl
 asked_casts Length (Integer signed bits) k h = refl
@@ -100,6 +101,7 @@ target_asked Sortable type h = h
 target_asked Summable type h = h
 target_asked Listed type h = h
 target_asked Boolean type h = refl
+target_asked Castable type h = refl
 target_asked Place type h = refl
 target_asked Length type h = refl
 
@@ -109,6 +111,7 @@ target_kept Sortable type = refl
 target_kept Summable type = refl
 target_kept Listed type = refl
 target_kept Boolean type = refl
+target_kept Castable type = refl
 target_kept Place type = refl
 target_kept Length type = refl
 

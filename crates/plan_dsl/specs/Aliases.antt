@@ -3,7 +3,7 @@
 -- expression itself without them: its core. A function's operands have none in either, and it records their names. A
 -- horizontal over few operands is written out: over none it is a literal, over one a cast, and over more a chain of an
 -- operator from the left.
-use Rattle.std.specs.Prelude.{ℕ, nat_lt, Bool, true, false, ◌&&◌, List, [], IsTrue, if◌then◌else◌}
+use Rattle.std.specs.Prelude.{ℕ, nat_lt, Bool, true, false, not, ◌&&◌, List, [], IsTrue, if◌then◌else◌}
 use Rattle.plan_types.specs.Types.{Truth}
 use Rattle.plan_types.specs.Values.{TruthValue}
 use Rattle.plan_types.specs.declared.dtype.CastOptions.TheVariants.{NonStrict}
@@ -38,6 +38,15 @@ written_out op children = node op children
 abbrev pub is_written_out : Op → ℕ → Bool
 is_written_out (FunctionOp function []) count = is_horizontal function && nat_lt count least_horizontal
 is_written_out op count = false
+
+abbrev mutual
+  -- whether no horizontal in an expression is
+  pub writes_none : Expression → Bool
+  writes_none (node op children) = not (is_written_out op (tree_count children)) && all_write_none children
+
+  pub all_write_none : Trees Op → Bool
+  all_write_none no_more = true
+  all_write_none (more child rest) = writes_none child && all_write_none rest
 
 -- ---- aliases
 

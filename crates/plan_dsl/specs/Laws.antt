@@ -1,5 +1,5 @@
 -- Laws of the definitions, for all expressions and plans.
-use Rattle.std.specs.Prelude.{◌≡◌, ℕ, ℤ, List, [], ◌∷◌, ◌++◌, length, map, Option, Some, None, is_some, option_map, Ok, Err, IsTrue, Bool, true, false}
+use Rattle.std.specs.Prelude.{◌≡◌, ◌⊎◌, ℕ, ℤ, List, [], ◌∷◌, ◌++◌, length, map, Option, Some, None, is_some, option_map, Ok, Err, IsTrue, Bool, true, false}
 use Rattle.std.specs.Bool.{Decides}
 use Rattle.std.specs.List.{Contains, list_all}
 use Rattle.plan_types.specs.Types.{Ty, Untyped, is_known}
@@ -11,7 +11,7 @@ use Rattle.plan_types.specs.declared.error.ErrorKind.{ErrorKind}
 use Rattle.plan_types.specs.declared.error.ErrorKind.TheVariants.{InvalidOperation}
 use Rattle.plan_dsl.specs.Registry.{Registry}
 use Rattle.plan_dsl.specs.Ops.{Op, LiteralOp, BinaryOp, Expression}
-use Rattle.plan_dsl.specs.Aliases.{IsCore, core, renamed}
+use Rattle.plan_dsl.specs.Aliases.{IsCore, core, renamed, writes_none}
 use Rattle.plan_dsl.specs.Trees.{Trees, node, no_more, more, tree_at}
 use Rattle.plan_dsl.specs.Plans.{Named, PlanKind, RefusedKind, PlanOp, Plan, SourcePlan, scans_in, drop_op}
 use Rattle.plan_dsl.specs.Sources.{Source, written, unwritten, is_plain, ColumnsOp, IndexColumnOp, ExcludeOp, same_source}
@@ -74,11 +74,12 @@ MeaningHasType = (registry : Registry) (frame : Frame) (tree : Expression) (type
 abbrev pub OnlyNumbersAreUntyped : Type 0
 OnlyNumbersAreUntyped = (registry : Registry) (schema : Columns) (number : ℤ) (tree : Expression) (typed : Typed) → typing registry schema tree ≡ Ok typed → typed.type ≡ Untyped number → tree ≡ renamed tree (node (LiteralOp (Untyped number) (IntValue number)) no_more)
 
--- what a typed expression says without its aliases: it is typed so, and means the same
+-- what a typed expression says without its aliases: it is typed so, and means the same on the rows of a frame, and on any
+-- rows where no horizontal in it is written out
 pub record CoreSaysSame (registry : Registry) (schema : Columns) (tree : Expression) (typed : Typed) : Type 0 where
   pub none : IsCore (core tree)
   pub typing : typing registry schema (core tree) ≡ Ok typed
-  pub meaning : (rows : List Row) → meaning registry (record { schema = schema; rows = rows }) (core tree) ≡ meaning registry (record { schema = schema; rows = rows }) tree
+  pub meaning : (rows : List Row) → IsFrame (record { schema = schema; rows = rows }) ⊎ (writes_none tree ≡ true) → meaning registry (record { schema = schema; rows = rows }) (core tree) ≡ meaning registry (record { schema = schema; rows = rows }) tree
 
 abbrev pub CoresSaySame : Type 0
 CoresSaySame = (registry : Registry) (schema : Columns) (tree : Expression) (typed : Typed) → typing registry schema tree ≡ Ok typed → CoreSaysSame registry schema tree typed

@@ -14,6 +14,7 @@ pub mod FunctionTypes
 pub mod FunctionValues
 pub mod Functions
 pub mod Groups
+pub mod HorizontalLaws
 pub mod Kernels
 pub mod Labels
 pub mod Laws

@@ -2,12 +2,13 @@
 -- and with it their rule (`Typing`).
 use Rattle.std.specs.Prelude.{ℕ, zero, suc, nat_lt, Bool, true, false, ◌&&◌, ◌||◌, List, [], ◌∷◌, Result, Ok, Err, if◌then◌else◌, Some, None}
 use Rattle.plan_types.specs.Types.{Ty, Truth, Integer, DurationType, ListType, is_integer, is_null, is_ord, is_truth}
+use Rattle.plan_types.specs.Casts.{can_cast}
 use Rattle.plan_types.specs.declared.error.ErrorKind.{ErrorKind}
 use Rattle.plan_types.specs.declared.error.ErrorKind.TheVariants.{SchemaMismatch, ComputeError, InvalidOperation}
 use Rattle.plan_dsl.specs.declared.aggregate.GroupByMethod.{GroupByMethod}
 use Rattle.plan_dsl.specs.declared.aggregate.GroupByMethod.TheVariants.{Min, NanMin, Max, NanMax, NUnique, First as FirstValue, Last, Implode, Sum, Count as CountValues, Groups}
 use Rattle.plan_dsl.specs.declared.signature.Ask.{Ask}
-use Rattle.plan_dsl.specs.declared.signature.Ask.TheVariants.{Any, Sortable, Boolean, Place, Length, Summable, Listed}
+use Rattle.plan_dsl.specs.declared.signature.Ask.TheVariants.{Any, Sortable, Boolean, Castable, Place, Length, Summable, Listed}
 use Rattle.plan_dsl.specs.declared.signature.Asked.{Asked}
 use Rattle.plan_dsl.specs.declared.signature.OwnType.{OwnType}
 use Rattle.plan_dsl.specs.declared.signature.OwnType.TheVariants.{First, Item, ListOf, Count, Total, Rows, Truths}
@@ -17,7 +18,7 @@ use Rattle.plan_dsl.specs.declared.signature.Sharing.{Sharing}
 use Rattle.plan_dsl.specs.declared.signature.Sharing.TheVariants.{Alone, WithSecond, WithThird}
 use Rattle.plan_dsl.specs.declared.signature.Signature.{Signature}
 use Rattle.plan_dsl.specs.declared.function_expr.FunctionExpr.{FunctionExpr}
-use Rattle.plan_dsl.specs.declared.function_expr.FunctionExpr.TheVariants.{AllHorizontal, AnyHorizontal, IsNull, IsNotNull, FillNull, ShiftAndFill, ListGet}
+use Rattle.plan_dsl.specs.declared.function_expr.FunctionExpr.TheVariants.{AllHorizontal, AnyHorizontal, IsNull, IsNotNull, FillNull, ShiftAndFill, ListGet, FieldByIndex}
 use Rattle.plan_dsl.specs.Ops.{Op, LenOp, SliceOp, ExplodeOp, GatherOp, FilterOp, SortOp, SortByOp, AggOp, WindowOp, TernaryOp, FunctionOp}
 use Rattle.plan_dsl.specs.Sorting.{are_for}
 
@@ -45,6 +46,7 @@ abbrev pub is_asked : Ask → Ty → Bool
 is_asked Any type = true
 is_asked Sortable type = is_ord type || is_null type
 is_asked Boolean type = is_truth type || is_null type
+is_asked Castable type = can_cast type Truth
 is_asked Place type = is_integer type
 is_asked Length type = is_integer type || is_null type
 is_asked Summable type = is_summable type
@@ -53,6 +55,7 @@ is_asked Listed type = is_list type
 -- and the type to which it is taken
 abbrev pub asked_target : Ask → Ty → Ty
 asked_target Boolean type = Truth
+asked_target Castable type = Truth
 asked_target Place type = place_type
 asked_target Length type = place_type
 asked_target ask type = type
@@ -110,14 +113,21 @@ method_signature Sum = aggregated Summable Total
 method_signature (CountValues include_nulls) = aggregated Any Count
 method_signature Groups = aggregated Any Rows
 
--- a horizontal over fewer operands than this is written out (`Aliases`), and has no signature
+-- a horizontal over fewer operands than this is written out in plans (`Aliases`)
 abbrev pub least_horizontal : ℕ
 least_horizontal = 128
 
-abbrev pub horizontal_signature : ℕ → Result Signature ErrorKind
-horizontal_signature count = if nat_lt count least_horizontal then Err ComputeError else takes (asks Boolean) (asks Boolean) (asks Boolean) Truths WhereAny
+-- what a horizontal over so many operands asks of the first: of one alone that it can be cast to truth values
+abbrev pub horizontal_ask : ℕ → Ask
+horizontal_ask (suc zero) = Castable
+horizontal_ask count = Boolean
 
--- what a function asks of so many operands. Another number than its own is refused
+-- and of each: over none nothing is asked
+abbrev pub horizontal_signature : ℕ → Result Signature ErrorKind
+horizontal_signature count = takes (asks (horizontal_ask count)) (asks Boolean) (asks Boolean) Truths WhereAny
+
+-- what a function asks of so many operands. Another number than its own is refused, and so is a field at a place, of which
+-- expansion leaves none
 abbrev pub function_signature : FunctionExpr → ℕ → Result Signature ErrorKind
 function_signature IsNull (suc zero) = takes (asks Any) (asks Any) (asks Any) Truths WhereAny
 function_signature IsNotNull (suc zero) = takes (asks Any) (asks Any) (asks Any) Truths WhereAny
@@ -126,6 +136,7 @@ function_signature ShiftAndFill (suc (suc (suc zero))) = shares WithThird (asks 
 function_signature (ListGet null_on_oob) (suc (suc zero)) = takes (asks Listed) (asks Place) (asks Any) Item WhereAny
 function_signature AllHorizontal count = horizontal_signature count
 function_signature AnyHorizontal count = horizontal_signature count
+function_signature (FieldByIndex place) count = Err InvalidOperation
 function_signature function count = Err ComputeError
 
 -- The signature of an op over so many operands. An op over another number of operands than its own, which no expression

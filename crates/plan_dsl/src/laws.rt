@@ -7,6 +7,7 @@ ghost use Rattle.plan_dsl.specs.GroupLaws.{EachIsInOneGroup, ItemsGoToTheEnd, Sa
 ghost use Rattle.plan_dsl.specs.declared.operator.Operator.{Operator};
 ghost use Rattle.plan_dsl.specs.Evaluations.{Evaluated};
 ghost use Rattle.plan_dsl.specs.FunctionValues.{is_missing};
+ghost use Rattle.plan_dsl.specs.HorizontalLaws.{HorizontalsAreTheirChains};
 ghost use Rattle.plan_dsl.specs.ListLaws.{AggregatesAreOfAll, CastsAreOfEach, ColumnsAreForRows, ColumnsExplodeApart, FiltersKeepTrue, FramesTakeColumns, GatherGivesEach, GroupsGiveEach, IndicesArePlaces, MembersAreFound, OneIsLess, OperandsGiveEach, OperatorsGiveEach, PartsAreFound, RowsGiveEach, RowsHaveColumns, SeriesAreOfEach, ShiftsMoveValues, SlicesAreBetween};
 ghost use Rattle.plan_dsl.specs.Laws.{TakenTypesStay, TakenOperandsSaySame, SwappedOperandsSaySame, StrictRunIsMeaning, MeaningHasType, OnlyNumbersAreUntyped, CoresSaySame};
 ghost use Rattle.plan_dsl.specs.SortLaws.{ValuesHaveAnOrder, KeysHaveAnOrder, ValuesAreSorted, RowsAreSorted, SortsByKeysAreSorted, SortedByKeysAreTheSame};
@@ -18,7 +19,8 @@ ghost use Rattle.plan_dsl.specs.Windows.{Spot};
 /// A strict expression without aliases gives what it means as it is written.
 /// What a typed expression means has its type on every frame, and is never stuck.
 /// Only a number that is written without a type has no type of columns.
-/// Without its aliases a typed expression has the same type, and means the same.
+/// A horizontal over any number of operands has the name, type and meaning of the chain for which it is written out.
+/// Without its aliases a typed expression has the same type, and means the same, with its horizontals written out.
 pub fn expression_laws()
     ensures taken_stay { TakenTypesStay }
     ensures taken_operands { TakenOperandsSaySame }
@@ -26,6 +28,7 @@ pub fn expression_laws()
     ensures strict_run { StrictRunIsMeaning }
     ensures has_type { MeaningHasType }
     ensures untyped { OnlyNumbersAreUntyped }
+    ensures horizontals { HorizontalsAreTheirChains }
     ensures cores { CoresSaySame }
 {}
 

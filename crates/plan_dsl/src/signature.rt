@@ -13,6 +13,8 @@ pub enum Ask {
     Sortable,
     /// Truth values or null, taken to truth values.
     Boolean,
+    /// A type that can be cast to truth values, taken to these.
+    Castable,
     /// An integer, taken to places.
     Place,
     /// An integer or null, taken to places.

@@ -16,14 +16,15 @@ use Rattle.plan_dsl.specs.declared.function_expr.FunctionExpr.{FunctionExpr}
 use Rattle.plan_dsl.specs.declared.function_expr.FunctionExpr.TheVariants.{AllHorizontal, AnyHorizontal, IsNull, IsNotNull, FillNull, IsIn, ShiftAndFill, ListGet, FieldByName, FieldByIndex}
 use Rattle.plan_dsl.specs.FunctionTypes.{apart_type, field_found, field_taken, field_type, in_column, in_lists, is_in_taken, is_in_types, member_type}
 use Rattle.plan_dsl.specs.OperatorTypes.{Taken}
-use Rattle.plan_dsl.specs.Typing.{Ruling, Typed, function_rule, ruled_as, signed, some_many}
+use Rattle.plan_dsl.specs.Signatures.{function_signature}
+use Rattle.plan_dsl.specs.Typing.{Typed, function_rule, ruled_as, signed, some_many}
 use Rattle.plan_dsl.specs.Names.{Label, op_label}
 use Rattle.plan_dsl.specs.Ops.{FunctionOp, Op}
 use Rattle.plan_arena.specs.declared.aexpr.AExpr.TheVariants.{Function}
 use Rattle.plan_arena.specs.declared.expr_ir.ExprIR.{ExprIR}
 use Rattle.plan_arena.specs.declared.expr_ir.ExprIRs.{ExprIRs}
 use Rattle.plan_arena.specs.Layers.{Layer, op_of, inputs_of}
-use Rattle.plan_arena.specs.Items.{expression_layer, numbers_named, recorded}
+use Rattle.plan_arena.specs.Items.{AreNamesOver, expression_layer, numbers_named, recorded}
 use Rattle.plan_infer.specs.declared.type_table.Inferred.{Inferred}
 use Rattle.plan_infer.specs.declared.type_table.TypeTable.{TypeTable}
 use Rattle.plan_infer.specs.KeptTypes.{IsNamedBy, Says, by_itself, typings_at}
@@ -130,30 +131,19 @@ not_one name [] h = refl
 not_one name (x ∷ []) h = absurd (h refl)
 not_one name (x ∷ y ∷ rest) h = refl
 
--- none is typed over no operand
-pub over_none : (function : FunctionExpr) (ruling : Ruling) → function_rule function [] ≡ Ok ruling → ⊥
-over_none IsNull ruling h = cc
-over_none IsNotNull ruling h = cc
-over_none FillNull ruling h = cc
-over_none IsIn ruling h = cc
-over_none ShiftAndFill ruling h = cc
-over_none (ListGet null_on_oob) ruling h = cc
-over_none (FieldByName name) ruling h = cc
-over_none AllHorizontal ruling h = cc
-over_none AnyHorizontal ruling h = cc
-over_none (FieldByIndex place) ruling h = cc
+-- any other function goes by its signature
+pub by_signature : (function : FunctionExpr) (typed : List Typed) → (function ≡ IsIn → ⊥) → ((name : Name) → function ≡ FieldByName name → ⊥) → function_rule function typed ≡ signed (function_signature function (length typed)) typed
+by_signature IsIn typed member field = absurd (member refl)
+by_signature (FieldByName name) typed member field = absurd (field name refl)
+by_signature _ typed member field = refl
 
-no_items : (input : List ExprIR) → length input ≡ 0 → numbers_named input ≡ []
-no_items [] h = refl
-no_items (first ∷ rest) h = cc
+-- a function over some operand keeps its name itself, and so does one over none
+label_kept : (function : FunctionExpr) (input : List ExprIR) (names : List Label) → AreNamesOver (numbers_named input) names → op_label (FunctionOp function (recorded input)) names ≡ op_label (FunctionOp function (recorded input)) []
+label_kept function [] names over = ap (op_label (FunctionOp function [])) over
+label_kept function (first ∷ rest) names over = refl
 
--- a function over some operand keeps its name itself
-label_kept : (function : FunctionExpr) (input : List ExprIR) → (length input ≡ 0 → ⊥) → (names : List Label) → op_label (FunctionOp function (recorded input)) names ≡ op_label (FunctionOp function (recorded input)) []
-label_kept function [] some names = absurd (some refl)
-label_kept function (first ∷ rest) some names = refl
-
--- so a node of one that is typed is named by itself
-pub function_named : (table : TypeTable) (function : FunctionExpr) (input : ExprIRs) (n : ℕ) (l : Layer Op) (ns : List ℕ) (own : Inferred) → l ≡ expression_layer (Function input function) → ns ≡ inputs_of (expression_layer (Function input function)) → Says (function_rule function (typings_at table ns)) (typings_at table ns) own → own.name.0 ≡ n → IsNamedBy table (op_of l) n ns own.name.0
-function_named table function input n l ns own is inputs says named =
-    let some : length input.items.items ≡ 0 → ⊥ = λ none. over_none function says.ruling (ap (λ ms. function_rule function (typings_at table ms)) (sym (inputs ∙ no_items input.items.items none)) ∙ says.rules) in
-    by_itself named (λ names. ap (λ k. op_label (op_of k) names) is ∙ label_kept function input.items.items some names ∙ sym (ap (λ k. op_label (op_of k) []) is))
+-- so a node of one is named by itself
+pub function_named : (table : TypeTable) (function : FunctionExpr) (input : ExprIRs) (n : ℕ) (l : Layer Op) (ns : List ℕ) (own : Inferred) → l ≡ expression_layer (Function input function) → ns ≡ inputs_of (expression_layer (Function input function)) → own.name.0 ≡ n → IsNamedBy table (op_of l) n ns own.name.0
+function_named table function input n l ns own is inputs named =
+    by_itself named (λ names over.
+    ap (λ k. op_label (op_of k) names) is ∙ label_kept function input.items.items names (subst (λ ms. AreNamesOver ms names) inputs over) ∙ sym (ap (λ k. op_label (op_of k) []) is))

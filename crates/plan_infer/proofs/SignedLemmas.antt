@@ -236,6 +236,6 @@ named_over table op n k m rest ns name is all named first =
 
 pub named_signed : (item : AExpr) (table : TypeTable) (n name : ℕ) (ns : List ℕ) → IsSignedItem item → ns ≡ inputs_of (expression_layer item) → AllByRecursion (IsKept table) ns → name ≡ name_at table n ns → IsNamedBy table (op_of (expression_layer item)) n ns name
 named_signed item table n name ns is listed all named = ⊎_elim
-    (λ own. by_itself (named ∙ ap (name_at table n) (listed ∙ own.0)) own.1)
+    (λ own. by_itself (named ∙ ap (name_at table n) (listed ∙ own.0)) (λ names over. own.1 names))
     (λ first. named_over table (op_of (expression_layer item)) n n first.0 first.1 ns name (listed ∙ first.2) all named first.3)
     (name_of_first item is)

@@ -24,6 +24,7 @@ use Rattle.plan_arena.specs.Denotation.{Denotes, DenotesTree, DenoteAll}
 use Rattle.plan_arena.specs.Layers.{Layer, layer, op_of, inputs_of}
 use Rattle.plan_arena.specs.Items.{HoldsExpression, Grows, expression_layer, numbers}
 use Rattle.plan_arena.proofs.DenotationLemmas.{some_same, denotes_one, kept, same_or_other}
+use Rattle.plan_arena.proofs.LabelLemmas.{labels_over}
 use Rattle.plan_arena.proofs.ItemLemmas.{layer_op, layer_inputs, held_top, expression_laws, any_node, from_zero, grown_held, expression_got}
 use Rattle.plan_arena.proofs.NumberLemmas.{all_joined, all_weaker, taken_more}
 use Rattle.plan_infer.specs.declared.type_table.Inferred.{Inferred}
@@ -334,15 +335,15 @@ module _ (registry : Registry) (schema : Columns) (items : List AExpr) (table : 
       let e = right.each m first keeps in
       let one = denotes_one _ (HoldsExpression items) (expression_laws items) m e.tree x e.denotes d.0 in
       let own : label_of t ≡ label_of e.tree = ap label_of is ∙ same (fold_all op_label (more x xs)) ∙ ap label_of (sym one) in
-      record { op = e.name.op; inputs = e.name.inputs; held = subst (λ k. HoldsExpression items k e.name.op e.name.inputs) (sym at) e.name.held; gives = λ names. e.name.gives names ∙ sym own }
+      record { op = e.name.op; inputs = e.name.inputs; held = subst (λ k. HoldsExpression items k e.name.op e.name.inputs) (sym at) e.name.held; gives = λ names over. e.name.gives names over ∙ sym own }
   first_names op m rest no_more first name d keeps at same t is = absurd d
 
   -- the name of an expression is given by the node that names it
   pub named_there : (n : ℕ) (op : Op) (ns : List ℕ) (name : ℕ) → HoldsExpression items n op ns → IsNamedBy table op n ns name → (t : Expression) → Denotes (HoldsExpression items) n t → GivesName items name t
   named_there n op ns name held (by_itself at same) t d =
       let top = held_top items n op ns held t d in
-      let own : label_of t ≡ op_label op [] = ap label_of top.1 ∙ same (fold_all op_label top.0) in
-      record { op = op; inputs = ns; held = subst (λ m. HoldsExpression items m op ns) (sym at) held; gives = λ names. same names ∙ sym own }
+      let own : label_of t ≡ op_label op [] = ap label_of top.1 ∙ same (fold_all op_label top.0) (labels_over items ns top.0 top.2) in
+      record { op = op; inputs = ns; held = subst (λ m. HoldsExpression items m op ns) (sym at) held; gives = λ names over. same names over ∙ sym own }
   named_there n op ns name held (by_first m rest first inputs keeps at same) t d =
       let top = held_top items n op (m ∷ rest) (subst (HoldsExpression items n op) inputs held) t d in
       first_names op m rest top.0 first name top.2 keeps at same t top.1
@@ -399,7 +400,7 @@ node_stays registry schema items items' table table' n own e w d same name stays
 
 -- a name stays where items do
 pub name_stays : (items items' : List AExpr) (n : ℕ) (t w : Expression) → GivesName items n t → label_of w ≡ label_of t → ((n : ℕ) (op : Op) (inputs : List ℕ) → HoldsExpression items n op inputs → HoldsExpression items' n op inputs) → GivesName items' n w
-name_stays items items' n t w name same stays = record { op = name.op; inputs = name.inputs; held = stays n name.op name.inputs name.held; gives = λ names. name.gives names ∙ sym same }
+name_stays items items' n t w name same stays = record { op = name.op; inputs = name.inputs; held = stays n name.op name.inputs name.held; gives = λ names over. name.gives names over ∙ sym same }
 
 -- a table that keeps nothing is right
 pub right_start : (registry : Registry) (schema : Columns) (items : List AExpr) (table : TypeTable) → ((n : ℕ) → ¬ (IsKept table n)) → IsRight registry schema items table

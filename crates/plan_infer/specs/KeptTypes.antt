@@ -13,7 +13,7 @@ use Rattle.plan_dsl.specs.Typing.{Typed, Ruling, rule, types_of, typing}
 use Rattle.plan_arena.specs.declared.aexpr.AExpr.{AExpr}
 use Rattle.plan_arena.specs.Denotation.{Denotes, depth_at}
 use Rattle.plan_arena.specs.Layers.{op_of, inputs_of, shape_of}
-use Rattle.plan_arena.specs.Items.{HoldsExpression, expression_layer}
+use Rattle.plan_arena.specs.Items.{AreNamesOver, HoldsExpression, expression_layer}
 use Rattle.plan_infer.specs.declared.type_table.Inferred.{Inferred}
 use Rattle.plan_infer.specs.declared.type_table.TypeTable.{TypeTable}
 
@@ -107,7 +107,7 @@ name_at table n (first ∷ rest) = named_by n (entry_at table first)
 
 -- the node that names an expression: the node itself, or the one that names its first input
 pub data IsNamedBy (table : TypeTable) (op : Op) (n : ℕ) (inputs : List ℕ) (name : ℕ) : Type 0 where
-  by_itself : name ≡ n → ((names : List Label) → op_label op names ≡ op_label op []) → IsNamedBy table op n inputs name
+  by_itself : name ≡ n → ((names : List Label) → AreNamesOver inputs names → op_label op names ≡ op_label op []) → IsNamedBy table op n inputs name
   by_first : (m : ℕ) (rest : List ℕ) (first : Inferred) → inputs ≡ m ∷ rest → KeepsEntry table m first → name ≡ first.name.0 → ((names : List Label) → op_label op names ≡ first_label names) → IsNamedBy table op n inputs name
 
 -- the item at the number gives the expression its name, whatever its inputs are called
@@ -115,7 +115,7 @@ pub record GivesName (items : List AExpr) (n : ℕ) (tree : Expression) : Type 0
   pub op : Op
   pub inputs : List ℕ
   pub held : HoldsExpression items n op inputs
-  pub gives : (names : List Label) → op_label op names ≡ label_of tree
+  pub gives : (names : List Label) → AreNamesOver inputs names → op_label op names ≡ label_of tree
 
 -- The node denotes an expression of that name and typing, there are entries for its inputs, and the operand types are
 -- those of its rule.

@@ -5,7 +5,7 @@ ghost use Rattle.plan_types.specs.Errors.{IsMemoryOr, IsRefusal, no_memory};
 ghost use Rattle.plan_types.specs.CommonTypes.{type_alone};
 ghost use Rattle.plan_types.specs.Types.{Ty, NullType, ty};
 ghost use Rattle.plan_dsl.specs.declared.signature.OwnType.TheVariants.{Item};
-ghost use Rattle.plan_dsl.specs.Signatures.{asked_at, asked_target, function_signature, has_flags, horizontal_signature, is_asked, is_summable, method_signature, own_type, signature, sum_type};
+ghost use Rattle.plan_dsl.specs.Signatures.{asked_at, asked_target, function_signature, has_flags, horizontal_ask, horizontal_signature, is_asked, is_summable, method_signature, own_type, signature, sum_type};
 ghost use Rattle.plan_dsl.specs.Sorting.{are_for};
 ghost use Rattle.plan_dsl.specs.Typing.{Typed, many_of, shared_at, shared_type, signed, some_many, taken_alone, taken_by, taken_from, types_of};
 ghost use Rattle.plan_arena.specs.Layers.{op_of, inputs_of};
@@ -24,6 +24,7 @@ use plan_dsl::aggregate::GroupByMethod;
 use plan_dsl::function_expr::FunctionExpr;
 use plan_dsl::signature::{Ask, Many, OwnType, Sharing, Signature, asks, asks_one, shares, takes};
 use plan_dsl::sort_options::{Flags, SortMultipleOptions, SortOptions};
+use plan_types::cast::can_cast;
 use plan_types::common_type::{materialize_dyn_int, try_get_common_type};
 use plan_types::dtype::DataType;
 use plan_types::error::{ErrorKind, PlanError};
@@ -155,26 +156,32 @@ fn function_signature(function: &FunctionExpr, input: &ExprIRs) -> Result<Signat
             takes(asks(Listed), asks(Place), asks(Any), Item, WhereAny),
         ),
         FunctionExpr::AllHorizontal | FunctionExpr::AnyHorizontal => horizontal_signature(count),
-        FunctionExpr::IsIn | FunctionExpr::FieldByName(_) | FunctionExpr::FieldByIndex(_) => {
-            Err(ErrorKind::ComputeError)
-        }
+        FunctionExpr::IsIn | FunctionExpr::FieldByName(_) => Err(ErrorKind::ComputeError),
+        FunctionExpr::FieldByIndex(_) => Err(ErrorKind::InvalidOperation),
     }
 }
 
-// What a horizontal asks of so many inputs: one over fewer than 128 is written out, and no node.
+// What a horizontal asks of so many inputs.
 fn horizontal_signature(count: usize) -> Result<Signature, ErrorKind>
     ensures { result ≡ horizontal_signature count }
 {
-    if count < 128 {
-        return Err(ErrorKind::ComputeError);
-    }
     takes(
-        asks(Ask::Boolean),
+        asks(horizontal_ask(count)),
         asks(Ask::Boolean),
         asks(Ask::Boolean),
         OwnType::Truths,
         Many::WhereAny,
     )
+}
+
+// What it asks of the first: of one alone that it can be cast to truth values.
+fn horizontal_ask(count: usize) -> Ask
+    ensures { result ≡ horizontal_ask count }
+{
+    match count {
+        1 => Ask::Castable,
+        _ => Ask::Boolean,
+    }
 }
 
 // A function's signature over its own number of inputs, where there are so many.
@@ -346,6 +353,7 @@ fn is_asked(ask: Ask, alone: &DataType) -> bool
         Ask::Any => true,
         Ask::Sortable => matches!(alone, DataType::Null) || alone.is_ord(),
         Ask::Boolean => matches!(alone, DataType::Null | DataType::Boolean),
+        Ask::Castable => can_cast(alone, &DataType::Boolean),
         Ask::Place => alone.is_integer(),
         Ask::Length => matches!(alone, DataType::Null) || alone.is_integer(),
         Ask::Summable => is_summable(alone),
@@ -365,7 +373,7 @@ fn asked_target(ask: Ask, alone: DataType) -> DataType
 {
     match ask {
         Ask::Any | Ask::Sortable | Ask::Summable | Ask::Listed => alone,
-        Ask::Boolean => DataType::Boolean,
+        Ask::Boolean | Ask::Castable => DataType::Boolean,
         Ask::Place | Ask::Length => DataType::Int64,
     }
 }

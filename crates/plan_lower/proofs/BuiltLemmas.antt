@@ -1,5 +1,5 @@
 -- What is built from scans, filters, selects and hstacks, and why one of the last three isn't.
-use Rattle.std.proofs.Common.{◌≡◌, ◌⊎◌, inl, inr, ℕ, List, [], ◌∷◌, ◌++◌, map, true, false, is_some, Option, Some, None, Result, Ok, Err, refl, sym, ap, ◌∙◌, subst, ⊎_elim}
+use Rattle.std.proofs.Common.{◌≡◌, ◌⊎◌, inl, inr, ℕ, List, [], ◌∷◌, ◌++◌, map, true, false, is_some, IsTrue, Option, Some, None, Result, Ok, Err, refl, sym, ap, ◌∙◌, subst, ⊎_elim}
 use Rattle.std.specs.List.{AllByRecursion, Contains}
 use Rattle.std.proofs.lemmas.List.{map-append}
 use Rattle.std.proofs.lemmas.List.Elements.{Contains-push}
@@ -30,7 +30,8 @@ use Rattle.plan_dsl.proofs.ResolvingLemmas.{resolved_as}
 use Rattle.plan_dsl.proofs.FrameLemmas.{fits_input, fits_over}
 use Rattle.plan_dsl.proofs.KernelLemmas.{AgreeOn, selected_agrees, hstacked_agrees, filtered_agrees}
 use Rattle.plan_dsl.proofs.LiteralLemmas.{strict_settled, settled_label}
-use Rattle.plan_dsl.proofs.AliasLemmas.{core_label, core_none}
+use Rattle.plan_dsl.proofs.AliasLemmas.{core_label}
+use Rattle.plan_dsl.proofs.CoreLemmas.{core_none}
 use Rattle.plan_coerce.specs.Coercion.{coerced}
 use Rattle.plan_coerce.proofs.CoercedLemmas.{coerced_core}
 use Rattle.plan_coerce.proofs.InliningLemmas.{inlined_core}
@@ -39,6 +40,8 @@ use Rattle.plan_dsl.proofs.RuleLemmas.{scan_schema, scan_unknown_kind, select_sc
 use Rattle.plan_arena.specs.Runs.{AreStrict, HasOwnName, HasRecorded, HaveOwnNames, IsStrictCore, by_running, plan_run}
 use Rattle.plan_arena.proofs.RunLemmas.{runs_soundly, sound_top}
 use Rattle.plan_bounds.proofs.BoundLemmas.{AreWithin, AllWithin, none_within, more_within, nothing_within, all_within, over_bounded, over_nothing, scan_bounded, split_bounded}
+use Rattle.plan_bounds.specs.LoweredPlans.{AreWide, has_wide_horizontals}
+use Rattle.plan_bounds.proofs.WideLemmas.{filters_wide, split_wide}
 use Rattle.plan_expand.specs.Refusals.{IsUnexpanded, no_room as no_place, unexpanded}
 use Rattle.plan_lower.specs.Outputs.{Lowered, IsLowered, lowered_named, lowered_column, lowered_select, lowered_hstack, SelectsTo}
 use Rattle.plan_lower.specs.Projection.{IsOutputRefusal, no_room, untyped, repeated, IsProjectionRefusal, out_of_memory as no_space, refused}
@@ -74,6 +77,7 @@ module _ (registry : Registry) where
         accepted = (there, tt);
         strict = (tt, tt);
         names = (tt, tt);
+        wide = (tt, tt);
         split = (tt, tt);
         fits = λ tables f. f;
         same = λ tables f. refl;
@@ -111,6 +115,11 @@ module _ (registry : Registry) where
   each_named schema [] each = tt
   each_named schema (o ∷ os) each = (own_named schema o each.0, each_named schema os each.1)
 
+  -- and each horizontal in it is wide
+  pub each_wide : (schema : Columns) (outputs : List Lowered) → AllByRecursion (IsLowered registry schema) outputs → AllByRecursion (λ (o : Named Expression). IsTrue (has_wide_horizontals o.expression)) (map lowered_named outputs)
+  each_wide schema [] each = tt
+  each_wide schema (o ∷ os) each = (each.0.wide, each_wide schema os each.1)
+
   -- what stands for an expression gives what the expression means
   pub agree : (schema : Columns) (outputs : List Lowered) → AllByRecursion (IsLowered registry schema) outputs → AgreeOn schema (by_running registry) (by_meaning registry) (map lowered_named outputs) (map (λ (o : Lowered). named o.tree) outputs)
   agree schema [] each rows = refl
@@ -144,10 +153,10 @@ module _ (registry : Registry) where
   over_schema op input schema own there rule = ap (λ s. plan_rule registry op (s ∷ [])) there ∙ rule
 
   -- a node over what was built from its input: both have the schema over the input's, and it records that or none; its
-  -- expressions are strict and named, have no more casts and nodes than those of the query's node call for, and give over
+  -- expressions are strict and named, their horizontals are wide, and they have no more casts and nodes than those of the query's node call for, and give over
   -- frames of the input's schema what those give
-  pub over_built : (before op : PlanOp (Named Expression)) (source lowered : Plan) (schema own : Columns) → IsBuilt registry source lowered schema → plan_rule registry before (Some schema ∷ []) ≡ Some own → plan_rule registry op (Some schema ∷ []) ≡ Some own → HasRecorded op.recorded (Some own) → AreStrict registry (Some schema ∷ []) (expressions_of op.kind) → HaveOwnNames (expressions_of op.kind) → IsWhole op.kind → own_scans op.kind ≡ [] → AllWithin registry schema (expressions_of before.kind) (expressions_of op.kind) → ((tables : List Frame) (input : Outcome Frame) → Meets (IsFrameOf schema) input → plan_kernel tables (by_running registry) op (input ∷ []) ≡ plan_kernel tables (by_meaning registry) before (input ∷ [])) → IsBuilt registry (node before (more source no_more)) (node op (more lowered no_more)) own
-  over_built before op source lowered schema own built rule_before rule_op recorded strict names whole scans within agrees =
+  pub over_built : (before op : PlanOp (Named Expression)) (source lowered : Plan) (schema own : Columns) → IsBuilt registry source lowered schema → plan_rule registry before (Some schema ∷ []) ≡ Some own → plan_rule registry op (Some schema ∷ []) ≡ Some own → HasRecorded op.recorded (Some own) → AreStrict registry (Some schema ∷ []) (expressions_of op.kind) → HaveOwnNames (expressions_of op.kind) → AreWide (expressions_of op.kind) → IsWhole op.kind → own_scans op.kind ≡ [] → AllWithin registry schema (expressions_of before.kind) (expressions_of op.kind) → ((tables : List Frame) (input : Outcome Frame) → Meets (IsFrameOf schema) input → plan_kernel tables (by_running registry) op (input ∷ []) ≡ plan_kernel tables (by_meaning registry) before (input ∷ [])) → IsBuilt registry (node before (more source no_more)) (node op (more lowered no_more)) own
+  over_built before op source lowered schema own built rule_before rule_op recorded strict names wide whole scans within agrees =
       let there = over_schema before source schema own built.source_schema rule_before in
       let here = over_schema op lowered schema own built.lowered_schema rule_op in
       record {
@@ -157,6 +166,7 @@ module _ (registry : Registry) where
         accepted = (subst (HasRecorded op.recorded) (sym here) recorded, (built.accepted, tt));
         strict = (subst (λ s. AreStrict registry (s ∷ []) (expressions_of op.kind)) (sym built.lowered_schema) strict, (built.strict, tt));
         names = (names, (built.names, tt));
+        wide = (wide, (built.wide, tt));
         split = (whole, (built.split, tt));
         fits = λ tables f. fits_over tables op lowered scans (built.fits tables (fits_input tables before source f));
         same = λ tables f.
@@ -181,6 +191,7 @@ module _ (registry : Registry) where
         accepted = (refl, ((refl, tt), tt));
         strict = ((tt, tt), ((tt, tt), tt));
         names = ((tt, tt), ((tt, tt), tt));
+        wide = ((tt, tt), ((tt, tt), tt));
         split = (tt, ((tt, tt), tt));
         fits = λ tables f. tt;
         same = λ tables f. refl;
@@ -190,7 +201,7 @@ module _ (registry : Registry) where
       let outputs = o ∷ os in
       let own = map lowered_column outputs in
       let here = select_schema registry schema output_label (λ (o : Lowered). o.after) output_typed (Some own) outputs (each_after_typed schema outputs each) distinct in
-      over_built (select_op (source_outputs outputs) None) (select_op (map lowered_named outputs) (Some own)) source lowered schema own built (select_columns schema None outputs each distinct) here refl (each_strict schema outputs each, tt) (each_named schema outputs each, tt) tt refl (only_within schema outputs each)
+      over_built (select_op (source_outputs outputs) None) (select_op (map lowered_named outputs) (Some own)) source lowered schema own built (select_columns schema None outputs each distinct) here refl (each_strict schema outputs each, tt) (each_named schema outputs each, tt) (each_wide schema outputs each, tt) tt refl (only_within schema outputs each)
       (λ tables input meets. selected_agrees (by_running registry) (by_meaning registry) (map lowered_named outputs) (source_outputs outputs) schema input (agree schema outputs each) meets)
 
   -- a select of expressions that become the outputs, over an input that is built, is built
@@ -206,7 +217,7 @@ module _ (registry : Registry) where
       let own = with_columns schema (map lowered_column outputs) in
       let there = hstack_schema registry schema output_label (λ (o : Lowered). core o.tree) output_typed None outputs (each_typed schema outputs each) distinct in
       let here = hstack_schema registry schema output_label (λ (o : Lowered). o.after) output_typed (Some own) outputs (each_after_typed schema outputs each) distinct in
-      over_built (hstack_op (source_outputs outputs) None) (hstack_op (map lowered_named outputs) (Some own)) source lowered schema own built there here refl (each_strict schema outputs each, tt) (each_named schema outputs each, tt) tt refl (only_within schema outputs each)
+      over_built (hstack_op (source_outputs outputs) None) (hstack_op (map lowered_named outputs) (Some own)) source lowered schema own built there here refl (each_strict schema outputs each, tt) (each_named schema outputs each, tt) (each_wide schema outputs each, tt) tt refl (only_within schema outputs each)
       (λ tables input meets. hstacked_agrees (by_running registry) (by_meaning registry) (map lowered_named outputs) (source_outputs outputs) schema input (agree schema outputs each) meets)
 
   -- an hstack of expressions that become the outputs, over an input that is built, is built
@@ -231,6 +242,7 @@ module _ (registry : Registry) where
         accepted = s.accepted;
         strict = s.strict;
         names = s.names;
+        wide = filters_wide (split_predicate (lowered_named o)) lowered (split_wide (lowered_named o) is.wide) built.wide;
         split = s.split;
         fits = λ tables f. s.fits tables (built.fits tables (fits_input tables before source f));
         same = λ tables f.

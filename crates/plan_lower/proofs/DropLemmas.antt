@@ -100,6 +100,7 @@ module _ (registry : Registry) where
         accepted = (refl, ((refl, tt), tt));
         strict = (tt, ((tt, tt), tt));
         names = (tt, ((tt, tt), tt));
+        wide = (tt, ((tt, tt), tt));
         split = (tt, ((tt, tt), tt));
         fits = λ tables f. tt;
         same = λ tables f. refl;
@@ -107,7 +108,7 @@ module _ (registry : Registry) where
       }
   projection_built source lowered schema (column ∷ columns) built rule =
       let own = column ∷ columns in
-      over_built registry (simple_projection_op own None) (simple_projection_op own (Some own)) source lowered schema own built rule rule refl tt tt tt refl (nothing_within registry schema) (λ tables input meets. refl)
+      over_built registry (simple_projection_op own None) (simple_projection_op own (Some own)) source lowered schema own built rule rule refl tt tt tt tt refl (nothing_within registry schema) (λ tables input meets. refl)
 
   under_denoted : (items : List AExpr) (plans : List IR) (n input : ℕ) (own : Columns) (t : Plan) → (length own ≡ 0 → IsEmptyTableAt plans n) → (0 < length own → n ≡ input) → Denotes (HoldsPlan items plans) input t → Denotes (HoldsPlan items plans) n (under own t)
   under_denoted items plans n input [] t nothing something d = empty_denoted items plans n (nothing refl)

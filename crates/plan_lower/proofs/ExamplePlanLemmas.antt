@@ -74,6 +74,7 @@ built = record {
   accepted = (refl, ((refl, tt), tt));
   strict = ((((refl, refl), tt), tt), ((tt, tt), tt));
   names = ((((inr refl, (tt, ((tt, ((tt, tt), tt)), ((tt, tt), tt)))), tt), tt), ((tt, tt), tt));
+  wide = (((refl, tt), tt), ((tt, tt), tt));
   split = (tt, ((tt, tt), tt));
   fits = λ tables fits. fits;
   same = same_frame;
@@ -85,8 +86,8 @@ pub grouped : GroupsTo [] two_columns (a ∷ []) (b ∷ []) (as_it_is a int8 ∷
 grouped = record {
   keys_are = refl;
   aggs_are = refl;
-  each_key = (record { typed = refl; same = record { typing = refl; name = refl; meaning = λ rows. refl }; strict = refl; casts = refl; names = (tt, tt) }, tt);
-  each_agg = (record { typed = refl; same = record { typing = refl; name = refl; meaning = λ rows. refl }; strict = refl; casts = refl; names = (tt, tt) }, tt);
+  each_key = (record { typed = refl; same = record { typing = refl; name = refl; meaning = λ rows. refl }; strict = refl; casts = refl; names = (tt, tt); wide = refl }, tt);
+  each_agg = (record { typed = refl; same = record { typing = refl; name = refl; meaning = λ rows. refl }; strict = refl; casts = refl; names = (tt, tt); wide = refl }, tt);
   distinct = (refl, (refl, tt));
   some = λ e. cc;
 }

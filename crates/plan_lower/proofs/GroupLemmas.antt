@@ -51,7 +51,7 @@ use Rattle.plan_lower.specs.Lowering.{IsBuilt, IsGroupByAt, IsPlanRefusal, out_o
 use Rattle.plan_lower.specs.Nodes.{KeepsExpressions}
 use Rattle.plan_lower.specs.Outputs.{HasOutputs, IsLowered, Lowered, lowered_column, lowered_named}
 use Rattle.plan_lower.specs.Projection.{IsOutput, IsOutputRefusal, no_room, untyped, repeated, IsProjectionRefusal, out_of_memory as no_space, refused, Output, output_node, Projects}
-use Rattle.plan_lower.proofs.BuiltLemmas.{agree, each_after_typed, each_named, each_strict, each_typed, each_within, output_label, output_typed, over_built, refused_over, unexpanded_then, unresolved_refused}
+use Rattle.plan_lower.proofs.BuiltLemmas.{agree, each_after_typed, each_named, each_strict, each_typed, each_wide, each_within, output_label, output_typed, over_built, refused_over, unexpanded_then, unresolved_refused}
 
 -- ---- names
 
@@ -294,7 +294,7 @@ module _ (registry : Registry) where
       let own = group_columns_of keys aggs in
       let there = group_schema registry schema output_label (λ (o : Lowered). core o.tree) output_typed None k ks aggs (each_typed registry schema keys each) (each_typed registry schema aggs also) distinct in
       let here = group_schema registry schema output_label (λ (o : Lowered). o.after) output_typed (Some own) k ks aggs (each_after_typed registry schema keys each) (each_after_typed registry schema aggs also) distinct in
-      over_built registry (group_by_op (source_outputs keys) (source_outputs aggs) None) (group_by_op (map lowered_named keys) (map lowered_named aggs) (Some own)) source lowered schema own built there here refl (each_strict registry schema keys each, (each_strict registry schema aggs also, tt)) (each_named registry schema keys each, (each_named registry schema aggs also, tt)) tt refl
+      over_built registry (group_by_op (source_outputs keys) (source_outputs aggs) None) (group_by_op (map lowered_named keys) (map lowered_named aggs) (Some own)) source lowered schema own built there here refl (each_strict registry schema keys each, (each_strict registry schema aggs also, tt)) (each_named registry schema keys each, (each_named registry schema aggs also, tt)) (each_wide registry schema keys each, (each_wide registry schema aggs also, tt)) tt refl
       (all_within registry schema _ _ _ _ (each_within registry schema keys each) (all_within registry schema _ _ [] [] (each_within registry schema aggs also) (nothing_within registry schema)))
       (λ tables input meets. grouped_agrees (by_running registry) (by_meaning registry) (map lowered_named keys) (source_outputs keys) (map lowered_named aggs) (source_outputs aggs) schema input (agree registry schema keys each) (agree registry schema aggs also) meets)
 

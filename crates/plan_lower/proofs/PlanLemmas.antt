@@ -25,7 +25,6 @@ use Rattle.plan_arena.proofs.DenotationLemmas.{denotes_one}
 use Rattle.plan_arena.proofs.ItemLemmas.{plan_added, plan_stays, plan_tree_kept, plan_laws}
 use Rattle.plan_arena.proofs.RunLemmas.{runs_soundly}
 use Rattle.plan_bounds.specs.LoweredPlans.{IsWidePlan}
-use Rattle.plan_bounds.proofs.WideLemmas.{strict_plan_wide}
 use Rattle.plan_lower.specs.Nodes.{KeepsExpressions}
 use Rattle.plan_lower.specs.Outputs.{Lowered, lowered_named, lowered_column, over, lowered_select, lowered_hstack, HasExpandedOutputs}
 use Rattle.plan_lower.specs.Predicates.{HasExpandedPredicate, IsUnfiltered, not_expanded as unreduced, no_predicate, lowered_filter}
@@ -192,7 +191,7 @@ module _ (registry : Registry) where
   pub stands_lowered : (lowering : IRPlan) (schema : Columns) (plan : Plan) → StandsFor registry lowering.expr_arena lowering.lp_arena lowering.lp_top.0 schema plan → HasLoweredTop registry lowering
   stands_lowered lowering schema plan s tree d =
       let built = built_one lowering.expr_arena lowering.lp_arena lowering.lp_top.0 schema plan tree s d in
-      record { accepted = built.accepted; strict = built.strict; names = built.names; wide = strict_plan_wide registry tree built.strict }
+      record { accepted = built.accepted; strict = built.strict; names = built.names; wide = built.wide }
 
   pub stands_bounded : (lowering : IRPlan) (schema : Columns) (plan : Plan) → StandsFor registry lowering.expr_arena lowering.lp_arena lowering.lp_top.0 schema plan → HasBoundedTop registry plan lowering
   stands_bounded lowering schema plan s tree d = (built_one lowering.expr_arena lowering.lp_arena lowering.lp_top.0 schema plan tree s d).bounds

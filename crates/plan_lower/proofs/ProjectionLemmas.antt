@@ -1,5 +1,5 @@
 -- Projections, output by output.
-use Rattle.std.proofs.Common.{◌≡◌, ℕ, ◌<◌, ◌≤◌, IfErr, Result, Ok, Err, List, [], ◌∷◌, ◌++◌, length, map, Option, Some, None, Bool, true, false, not, is_some, refl, sym, ap, ◌∙◌, subst, arith, append_assoc, append-nil}
+use Rattle.std.proofs.Common.{◌≡◌, ℕ, ◌<◌, ◌≤◌, IfErr, Result, Ok, Err, List, [], ◌∷◌, ◌++◌, length, map, Option, Some, None, Bool, true, false, not, is_some, IsTrue, refl, sym, ap, ◌∙◌, subst, arith, append_assoc, append-nil}
 use Rattle.std.specs.List.{AllByRecursion}
 use Rattle.std.proofs.lemmas.List.{map-append, length-map}
 use Rattle.plan_types.proofs.ListLemmas.{map-map}
@@ -31,6 +31,8 @@ use Rattle.plan_infer.specs.Typed.{DenotesKnown}
 use Rattle.plan_coerce.specs.Coercion.{KeepsBelow}
 use Rattle.plan_coerce.specs.Optimizer.{AreWrittenOut, IsWrittenOut}
 use Rattle.plan_coerce.proofs.NameLemmas.{written_names}
+use Rattle.plan_bounds.specs.LoweredPlans.{has_wide_horizontals}
+use Rattle.plan_bounds.proofs.WideLemmas.{written_wide}
 use Rattle.plan_infer.proofs.TableLemmas.{still_kept}
 use Rattle.plan_infer.specs.KeptTypes.{IsKept, Extends}
 use Rattle.plan_lower.specs.Nodes.{KeepsExpressions}
@@ -59,13 +61,13 @@ abbrev record_of : Label → ℕ → Named ℕ
 record_of label expression = record { label = label; expression = expression }
 
 -- a node of an expression that has a type, and a column of its name
-pub adds_output : (registry : Registry) (schema : Columns) (first : ℕ) (items : List AExpr) (tree : Expression) (node : Named ℕ) (asked : ℕ) (old new : Columns) (seen copy : Name) (type : Ty) → node.label ≡ label_of tree → Denotes (HoldsFrom first items) node.expression (settled (core tree)) → NamesOperands (settled (core tree)) → asked ≡ node.expression → ((t : Expression) → Denotes (HoldsExpression items) asked t → HasType (typing registry schema t) type) → is_some (type_at old seen) ≡ false → seen ≡ node.label.name → copy ≡ node.label.name → new ≡ with_column old copy type → AddsOutput registry schema first items tree node old new
-adds_output registry schema first items tree node asked old new seen copy type label d names at typed absent s c e =
+pub adds_output : (registry : Registry) (schema : Columns) (first : ℕ) (items : List AExpr) (tree : Expression) (node : Named ℕ) (asked : ℕ) (old new : Columns) (seen copy : Name) (type : Ty) → node.label ≡ label_of tree → Denotes (HoldsFrom first items) node.expression (settled (core tree)) → NamesOperands (settled (core tree)) → IsTrue (has_wide_horizontals (settled (core tree))) → asked ≡ node.expression → ((t : Expression) → Denotes (HoldsExpression items) asked t → HasType (typing registry schema t) type) → is_some (type_at old seen) ≡ false → seen ≡ node.label.name → copy ≡ node.label.name → new ≡ with_column old copy type → AddsOutput registry schema first items tree node old new
+adds_output registry schema first items tree node asked old new seen copy type label d names wide at typed absent s c e =
     let name = ap (λ (l : Label). l.name) label in
     let has = typed (settled (core tree)) (subst (λ k. Denotes (HoldsExpression items) k (settled (core tree))) (sym at) (any_node first items node.expression (settled (core tree)) d)) in
     record {
       output = record { tree = tree; node = node.expression; typed = record { type = type; many = has.many } };
-      is = record { denotes = d; typed = has.is; names = names };
+      is = record { denotes = d; typed = has.is; names = names; wide = wide };
       tree_is = refl;
       node_is = ap (λ n. record_of n node.expression) (sym label);
       new_name = no_type (type_at old (name_of tree)) (ap (λ n. is_some (type_at old n)) (sym (s ∙ name)) ∙ absent);
@@ -76,7 +78,7 @@ adds_output registry schema first items tree node asked old new seen copy type l
 outputs_grown : (registry : Registry) (schema : Columns) (first : ℕ) (items grown : List AExpr) → Grows items grown → (outputs : List Output) → AllByRecursion (IsOutput registry schema first items) outputs → AllByRecursion (IsOutput registry schema first grown) outputs
 outputs_grown registry schema first items grown g [] all = tt
 outputs_grown registry schema first items grown g (o ∷ os) all =
-    (record { denotes = tree_grown first first items grown (omega arith) g o.node (settled (core o.tree)) all.0.denotes; typed = all.0.typed; names = all.0.names }, outputs_grown registry schema first items grown g os all.1)
+    (record { denotes = tree_grown first first items grown (omega arith) g o.node (settled (core o.tree)) all.0.denotes; typed = all.0.typed; names = all.0.names; wide = all.0.wide }, outputs_grown registry schema first items grown g os all.1)
 
 all_pushed : (P : Output → Type 0) (os : List Output) (o : Output) → AllByRecursion P os → P o → AllByRecursion P (os ++ o ∷ [])
 all_pushed P [] o all p = (p, tt)
@@ -112,7 +114,7 @@ projecting_step registry schema first items grown whole before rest tree nodes n
         trees_are = map-append (λ (o : Output). o.tree) outputs (o ∷ []) ∙ ap (λ l. l ++ o.tree ∷ []) p.projects.trees_are ∙ ap (λ t. p.front ++ t ∷ []) a.tree_is;
         nodes_are = map-append output_node outputs (o ∷ []) ∙ ap (λ l. l ++ output_node o ∷ []) p.projects.nodes_are ∙ ap (λ n. nodes ++ n ∷ []) a.node_is ∙ sym pushed;
         columns_are = map-append output_column outputs (o ∷ []) ∙ ap (λ l. l ++ output_column o ∷ []) p.projects.columns_are ∙ sym a.column_is;
-        each = all_pushed (IsOutput registry schema first grown) outputs o (outputs_grown registry schema first items grown g outputs p.projects.each) (record { denotes = lower; typed = a.is.typed; names = a.is.names });
+        each = all_pushed (IsOutput registry schema first grown) outputs o (outputs_grown registry schema first items grown g outputs p.projects.each) (record { denotes = lower; typed = a.is.typed; names = a.is.names; wide = a.is.wide });
         distinct = subst HasDistinctNames (sym a.column_is) (HasDistinctNames-push columns (name_of o.tree) o.typed.type p.projects.distinct a.new_name);
       };
       split = p.split ∙ ap (λ l. p.front ++ l) e ∙ sym (append_assoc p.front (tree ∷ []) rest);
@@ -168,7 +170,8 @@ lowered_as : (registry : Registry) (schema : Columns) (first : ℕ) (old new : L
 lowered_as registry schema first old new o is each =
     let w = each (settled (core o.tree)) (any_node first old o.node (settled (core o.tree)) is.denotes) in
     let names = subst NamesOperands (sym w.is) (written_names registry schema (settled (core o.tree)) o.typed is.typed is.names) in
-    (w.tree, record { typed = is.typed; same = w.same; strict = w.strict; casts = w.is; names = names }, w.denotes)
+    let wide = subst (λ t. IsTrue (has_wide_horizontals t)) (sym w.is) (written_wide registry schema (settled (core o.tree)) o.typed is.typed is.wide) in
+    (w.tree, record { typed = is.typed; same = w.same; strict = w.strict; casts = w.is; names = names; wide = wide }, w.denotes)
 
 has_lowered : (registry : Registry) (schema : Columns) (first : ℕ) (old new : List AExpr) → (outputs : List Output) → AllByRecursion (IsOutput registry schema first old) outputs → AllByRecursion (λ n. (t : Expression) → Denotes (HoldsExpression old) n t → IsWrittenOut registry schema new n t) (map (λ (o : Output). o.node) outputs) → HasLowered registry schema new outputs
 has_lowered registry schema first old new [] all written = record { lowered = []; trees_are = refl; columns_are = refl; each = tt; denotes = tt }
@@ -197,10 +200,10 @@ has_outputs registry schema first old new trees nodes columns p coerced =
     }
 
 -- one output that has a type
-pub one_output : (registry : Registry) (schema : Columns) (first : ℕ) (items : List AExpr) (tree : Expression) (n asked : ℕ) (type : Ty) → Denotes (HoldsFrom first items) n (settled (core tree)) → NamesOperands (settled (core tree)) → asked ≡ n → ((t : Expression) → Denotes (HoldsExpression items) asked t → HasType (typing registry schema t) type) → (many : Bool) × IsOutput registry schema first items (record { tree = tree; node = n; typed = record { type = type; many = many } })
-one_output registry schema first items tree n asked type d names at typed =
+pub one_output : (registry : Registry) (schema : Columns) (first : ℕ) (items : List AExpr) (tree : Expression) (n asked : ℕ) (type : Ty) → Denotes (HoldsFrom first items) n (settled (core tree)) → NamesOperands (settled (core tree)) → IsTrue (has_wide_horizontals (settled (core tree))) → asked ≡ n → ((t : Expression) → Denotes (HoldsExpression items) asked t → HasType (typing registry schema t) type) → (many : Bool) × IsOutput registry schema first items (record { tree = tree; node = n; typed = record { type = type; many = many } })
+one_output registry schema first items tree n asked type d names wide at typed =
     let has = typed (settled (core tree)) (subst (λ k. Denotes (HoldsExpression items) k (settled (core tree))) (sym at) (any_node first items n (settled (core tree)) d)) in
-    (has.many, record { denotes = d; typed = has.is; names = names })
+    (has.many, record { denotes = d; typed = has.is; names = names; wide = wide })
 
 -- a predicate of the type of truth values that was coerced
 pub has_predicate : (registry : Registry) (schema : Columns) (first : ℕ) (old new : List AExpr) (o : Output) (node : Named ℕ) → IsOutput registry schema first old o → o.typed.type ≡ Truth → node.label ≡ label_of o.tree → node.expression ≡ o.node → AreWrittenOut registry schema first old new (o.node ∷ []) → HasPredicate registry schema new o.tree node

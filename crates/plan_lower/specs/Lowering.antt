@@ -41,6 +41,7 @@ pub record IsBuilt (registry : Registry) (source lowered : Plan) (schema : Colum
   pub accepted : IsAccepted registry lowered
   pub strict : IsStrictPlan registry lowered
   pub names : IsNamedPlan lowered
+  pub wide : IsWidePlan lowered
   pub fits : (tables : List Frame) → FitsPlan tables source → FitsPlan tables lowered
   pub split : IsSplitPlan lowered
   pub same : (tables : List Frame) → FitsPlan tables source → plan_run registry tables lowered ≡ source_meaning registry tables source

@@ -1,5 +1,5 @@
 -- The outputs of a select or an hstack: expressions with what lowering makes of them.
-use Rattle.std.specs.Prelude.{◌≡◌, ℕ, List, [], ◌∷◌, map, Some, Ok}
+use Rattle.std.specs.Prelude.{◌≡◌, ℕ, List, [], ◌∷◌, map, Some, Ok, IsTrue}
 use Rattle.std.specs.List.{AllByRecursion}
 use Rattle.plan_types.specs.Types.{Ty}
 use Rattle.plan_types.specs.Schemas.{Name, Columns, HasDistinctNames}
@@ -18,6 +18,7 @@ use Rattle.plan_dsl.specs.Strictness.{IsSame, IsStrict}
 use Rattle.plan_arena.specs.declared.aexpr.AExpr.{AExpr}
 use Rattle.plan_arena.specs.Items.{DenoteNamed}
 use Rattle.plan_arena.specs.Runs.{NamesOperands}
+use Rattle.plan_bounds.specs.LoweredPlans.{has_wide_horizontals}
 use Rattle.plan_coerce.specs.InlinedCasts.{written_out}
 
 -- an expression of the query, its type, and what stands for it in the lowered plan
@@ -33,7 +34,7 @@ abbrev pub lowered_column : Lowered → Name × Ty
 lowered_column output = (name_of output.tree, output.typed.type)
 
 -- the expression, as a plan takes it, is typed, and what stands for it says the same, is strict and has names for the
--- operands of its functions: it is that expression with every implicit cast written out, without the casts that can be told
+-- operands of its functions, and each horizontal in it is wide: it is that expression with every implicit cast written out, without the casts that can be told
 -- beforehand
 pub record IsLowered (registry : Registry) (schema : Columns) (output : Lowered) : Type 0 where
   pub typed : typing registry schema (settled (core output.tree)) ≡ Ok output.typed
@@ -41,6 +42,7 @@ pub record IsLowered (registry : Registry) (schema : Columns) (output : Lowered)
   pub strict : IsStrict registry schema output.after
   pub casts : output.after ≡ written_out registry schema (settled (core output.tree))
   pub names : NamesOperands output.after
+  pub wide : IsTrue (has_wide_horizontals output.after)
 
 -- the outputs are those of the expressions, under distinct names
 pub record SelectsTo (registry : Registry) (schema : Columns) (trees : List Expression) (outputs : List Lowered) : Type 0 where

@@ -1,5 +1,5 @@
 -- Projections: expressions of one node, lowered together.
-use Rattle.std.specs.Prelude.{◌≡◌, ℕ, List, [], ◌∷◌, ◌++◌, map, true, is_some, Ok, Err}
+use Rattle.std.specs.Prelude.{◌≡◌, ℕ, List, [], ◌∷◌, ◌++◌, map, true, is_some, IsTrue, Ok, Err}
 use Rattle.std.specs.List.{AllByRecursion}
 use Rattle.plan_types.specs.Types.{Ty}
 use Rattle.plan_types.specs.Schemas.{Name, Columns, type_at, IsNewName, HasDistinctNames}
@@ -19,6 +19,7 @@ use Rattle.plan_arena.specs.declared.aexpr.AExpr.{AExpr}
 use Rattle.plan_arena.specs.Denotation.{Denotes}
 use Rattle.plan_arena.specs.Items.{HoldsFrom}
 use Rattle.plan_arena.specs.Runs.{NamesOperands}
+use Rattle.plan_bounds.specs.LoweredPlans.{has_wide_horizontals}
 use Rattle.plan_expand.specs.Refusals.{IsUnexpanded}
 
 -- an expression, its node and its type
@@ -33,11 +34,13 @@ output_node output = record { label = label_of output.tree; expression = output.
 abbrev pub output_column : Output → Name × Ty
 output_column output = (name_of output.tree, output.typed.type)
 
--- the node denotes the expression as a plan takes it, which has the type, and names for the operands of its functions
+-- the node denotes the expression as a plan takes it, which has the type, and names for the operands of its functions, and
+-- in which each horizontal is wide
 pub record IsOutput (registry : Registry) (schema : Columns) (first : ℕ) (items : List AExpr) (output : Output) : Type 0 where
   pub denotes : Denotes (HoldsFrom first items) output.node (settled (core output.tree))
   pub typed : typing registry schema (settled (core output.tree)) ≡ Ok output.typed
   pub names : NamesOperands (settled (core output.tree))
+  pub wide : IsTrue (has_wide_horizontals (settled (core output.tree)))
 
 -- the nodes are those of the expressions, and the columns their names and types
 pub record Projects (registry : Registry) (schema : Columns) (first : ℕ) (items : List AExpr) (trees : List Expression) (nodes : List (Named ℕ)) (columns : Columns) : Type 0 where

@@ -231,8 +231,7 @@ told : (signature own : Signature) → (let found : Result Signature ErrorKind =
 told signature own h = sym (ap (λ (s : Signature). s.many) (ok_same (Ok signature) signature own refl h))
 
 horizontal_many : (count : ℕ) (signature : Signature) → horizontal_signature count ≡ Ok signature → signature.many ≡ WhereAny
-horizontal_many count signature h =
-    elim (nat_lt count least_horizontal) as (λ b. cond b (Err ComputeError) (takes (asks Boolean) (asks Boolean) (asks Boolean) Truths WhereAny) ≡ Ok signature → signature.many ≡ WhereAny) [ true ↦ λ h. cc | false ↦ λ h. told _ signature h ] h
+horizontal_many count signature h = told _ signature h
 
 -- ---- by op
 

@@ -126,7 +126,7 @@ done_again (Done a) = refl
 done_again Fault = refl
 done_again Stuck = refl
 
-all_of_both : (P : Expression → Type 0) (front back : List Expression) → AllByRecursion P front → AllByRecursion P back → AllByRecursion P (front ++ back)
+pub all_of_both : (P : Expression → Type 0) (front back : List Expression) → AllByRecursion P front → AllByRecursion P back → AllByRecursion P (front ++ back)
 all_of_both P [] back a b = b
 all_of_both P (t ∷ front) back a b = (a.0, all_of_both P front back a.1 b)
 

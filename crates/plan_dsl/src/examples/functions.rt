@@ -115,7 +115,7 @@ pub fn fields_of_structs()
         Gives (typing [] columns) (
         (call (FieldByName (codes "y")) (s ∷ []), of_many TextType) ∷ (call (FieldByName (codes "x")) (s ∷ []), of_many int8) ∷ (call (FieldByName (codes "z")) (s ∷ []), Err InvalidOperation) ∷
         (call (FieldByName (codes "x")) (a ∷ []), Err InvalidOperation) ∷ (call (FieldByName (codes "x")) (nothing ∷ []), Err InvalidOperation) ∷ (call (FieldByName (codes "x")) (one ∷ []), Err InvalidOperation) ∷
-        (call (FieldByName (codes "x")) [], Err ComputeError) ∷ (call (FieldByName (codes "x")) (s ∷ s ∷ []), Err ComputeError) ∷ (call (FieldByIndex (pos 0)) (s ∷ []), Err ComputeError) ∷ []) }
+        (call (FieldByName (codes "x")) [], Err ComputeError) ∷ (call (FieldByName (codes "x")) (s ∷ s ∷ []), Err ComputeError) ∷ (call (FieldByIndex (pos 0)) (s ∷ []), Err InvalidOperation) ∷ (call (FieldByIndex (pos 0)) [], Err InvalidOperation) ∷ (call (FieldByIndex (pos 0)) (s ∷ s ∷ []), Err InvalidOperation) ∷ []) }
     ensures values { let columns : Ty = struct_type ((codes "x", int8) ∷ (codes "y", TextType) ∷ (codes "x", int16) ∷ []) in
         Gives (λ name. means (alone columns (struct_of (number 1 ∷ text "p" ∷ number 300 ∷ []) ∷ null ∷ struct_of (null ∷ text "q" ∷ null ∷ []) ∷ [])) (call (FieldByName (codes name)) (a ∷ []))) (
         ("x", Done (number 1 ∷ null ∷ null ∷ [])) ∷ ("y", Done (text "p" ∷ null ∷ text "q" ∷ [])) ∷ []) }

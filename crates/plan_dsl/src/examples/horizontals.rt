@@ -1,8 +1,8 @@
 //! Horizontals: written out where they are few, with values of their own where they are many. Their inputs are expanded in
 //! place. Fields of structs at places get their names.
 
-ghost use Rattle.std.specs.Prelude.{◌≡◌, ℕ, List, [], ◌∷◌, pos, neg_ℤ, map, replicate, codes, true, false, Some, None, Result, Ok, Err};
-ghost use Rattle.plan_types.specs.Types.{Ty, Truth, NullType, TextType};
+ghost use Rattle.std.specs.Prelude.{◌≡◌, ℕ, List, [], ◌∷◌, ◌++◌, pos, neg_ℤ, map, replicate, codes, true, false, Some, None, Result, Ok, Err};
+ghost use Rattle.plan_types.specs.Types.{Ty, Truth, NullType, TextType, DateType};
 ghost use Rattle.plan_types.specs.Outcomes.{Done, Fault};
 ghost use Rattle.plan_types.specs.Schemas.{Columns};
 ghost use Rattle.plan_types.specs.declared.dtype.CastOptions.TheVariants.{NonStrict};
@@ -11,22 +11,24 @@ ghost use Rattle.plan_types.specs.declared.error.ErrorKind.TheVariants.{ColumnNo
 ghost use Rattle.plan_dsl.specs.declared.function_expr.FunctionExpr.{FunctionExpr};
 ghost use Rattle.plan_dsl.specs.declared.function_expr.FunctionExpr.TheVariants.{AllHorizontal, AnyHorizontal, FieldByName, FieldByIndex, FillNull, IsNull, IsNotNull};
 ghost use Rattle.plan_dsl.specs.declared.operator.Operator.TheVariants.{LogicalAnd, LogicalOr};
-ghost use Rattle.plan_dsl.specs.declared.signature.Signature.{Signature};
-ghost use Rattle.plan_dsl.specs.Aliases.{core, is_written_out, pruned};
+ghost use Rattle.plan_dsl.specs.declared.signature.Ask.TheVariants.{Boolean, Castable};
+ghost use Rattle.plan_dsl.specs.Aliases.{core, is_written_out, pruned, writes_none};
 ghost use Rattle.plan_dsl.specs.Expansion.{expansion, field_at, in_place, predicate_expansion};
 ghost use Rattle.plan_dsl.specs.FunctionValues.{all_true, any_true, function_values};
 ghost use Rattle.plan_dsl.specs.Kernels.{operator_values};
 ghost use Rattle.plan_dsl.specs.Names.{alias_label, label_of, literal_label};
 ghost use Rattle.plan_dsl.specs.Ops.{Expression, FunctionOp, LiteralOp};
 ghost use Rattle.plan_dsl.specs.Plans.{all_known_values, nulls_filled, source_call};
-ghost use Rattle.plan_dsl.specs.Signatures.{function_signature};
+ghost use Rattle.plan_dsl.specs.Signatures.{horizontal_ask};
+ghost use Rattle.plan_dsl.specs.Strictness.{is_strict};
 ghost use Rattle.plan_dsl.specs.Sources.{FieldAtOp, KeepRoot, Source, is_plain, written};
 ghost use Rattle.plan_dsl.specs.Trees.{node, no_more, more};
-ghost use Rattle.plan_dsl.specs.Typing.{typing};
-ghost use Rattle.plan_dsl.specs.Samples.{Gives, GivesOfTwo, GivesAll, int8, null, yes, no, struct_type, a, b, c, s, t, u, one, nothing, sum, binary, equal, cast_as, alias, call, of_many, of_one, means, alone, schema_ab, schema_abc, all_names, all, columns_named, columns_of_type, nth, but_named, selecting, root, form, prefix, plus, equals, source_alias};
+ghost use Rattle.plan_dsl.specs.Typing.{kinds_in, typing};
+ghost use Rattle.plan_dsl.specs.Samples.{Gives, GivesOfTwo, int8, null, yes, no, number, struct_type, a, b, c, d, s, t, u, one, nothing, sum, binary, equal, cast_as, alias, call, of_many, of_one, means, alone, beside, schema_ab, schema_abc, all_names, all, columns_named, columns_of_type, nth, but_named, selecting, root, form, prefix, plus, equals, source_alias};
 
 /// Over nothing a horizontal is a literal, over one operand a cast, and over more a chain from the left. Aliases go, and are
-/// kept where they are. From 128 operands on it stays, and so does one that has recorded names.
+/// kept where they are. From 128 operands on it stays, and so does one that has recorded names. What it is written out to has
+/// its type.
 pub fn written_out_horizontals()
     ensures cores { let literal : Expression = node (LiteralOp Truth yes) no_more in
         let other : Expression = node (LiteralOp Truth no) no_more in
@@ -42,8 +44,32 @@ pub fn written_out_horizontals()
     ensures sizes { GivesOfTwo is_written_out (
         (FunctionOp AllHorizontal [], 0, true) ∷ (FunctionOp AllHorizontal [], 127, true) ∷ (FunctionOp AllHorizontal [], 128, false) ∷ (FunctionOp AnyHorizontal [], 127, true) ∷ (FunctionOp AnyHorizontal [], 300, false) ∷
         (FunctionOp AllHorizontal (alias_label (codes "x") ∷ []), 1, false) ∷ (FunctionOp IsNull [], 1, false) ∷ []) }
-    ensures signed { let none : Result Signature ErrorKind = Err ComputeError in GivesAll (function_signature AllHorizontal) none (0 ∷ 1 ∷ 2 ∷ 127 ∷ []) }
-    ensures untyped { Gives (typing [] schema_ab) ((call AllHorizontal (a ∷ b ∷ []), Err ComputeError) ∷ (core (call AllHorizontal (equal a one ∷ equal b one ∷ [])), of_many Truth) ∷ (core (call AllHorizontal (a ∷ [])), of_many Truth) ∷ (core (call AllHorizontal (a ∷ b ∷ [])), Err InvalidOperation) ∷ (core (call AnyHorizontal []), of_one Truth) ∷ []) }
+    ensures typed { Gives (typing [] schema_ab) ((core (call AllHorizontal (equal a one ∷ equal b one ∷ [])), of_many Truth) ∷ (core (call AllHorizontal (a ∷ [])), of_many Truth) ∷ (core (call AllHorizontal (a ∷ b ∷ [])), Err InvalidOperation) ∷ (core (call AnyHorizontal []), of_one Truth) ∷ []) }
+    ensures writing { Gives writes_none ((a, true) ∷ (call AllHorizontal (a ∷ []), false) ∷ (alias "z" (equal a (call AnyHorizontal [])), false) ∷ (call IsNull (a ∷ []), true) ∷ (call AllHorizontal (replicate 128 a), true) ∷ []) }
+{}
+
+/// A horizontal asks nothing over no operand. One alone can be cast to truth values, and each of more is of truth values or
+/// null. Each is taken to truth values.
+pub fn operands_of_horizontals()
+    ensures asks { Gives horizontal_ask ((0, Boolean) ∷ (1, Castable) ∷ (2, Boolean) ∷ (127, Boolean) ∷ (128, Boolean) ∷ []) }
+    ensures types { let columns : Columns = (codes "t", Truth) ∷ (codes "u", NullType) ∷ (codes "a", int8) ∷ (codes "d", DateType) ∷ [] in
+        Gives (typing [] columns) (
+        (call AllHorizontal [], of_one Truth) ∷ (call AnyHorizontal (a ∷ []), of_many Truth) ∷ (call AllHorizontal (t ∷ []), of_many Truth) ∷ (call AllHorizontal (nothing ∷ []), of_one Truth) ∷ (call AnyHorizontal (one ∷ []), of_one Truth) ∷
+        (call AnyHorizontal (d ∷ []), Err InvalidOperation) ∷ (call AllHorizontal (c ∷ []), Err ColumnNotFound) ∷
+        (call AllHorizontal (t ∷ u ∷ []), of_many Truth) ∷ (call AnyHorizontal (u ∷ u ∷ []), of_many Truth) ∷ (call AllHorizontal (nothing ∷ node (LiteralOp Truth yes) no_more ∷ []), of_one Truth) ∷
+        (call AllHorizontal (a ∷ t ∷ []), Err InvalidOperation) ∷ (call AllHorizontal (t ∷ a ∷ []), Err InvalidOperation) ∷ (call AllHorizontal (t ∷ one ∷ []), Err InvalidOperation) ∷ (call AnyHorizontal (a ∷ t ∷ c ∷ []), Err ColumnNotFound) ∷
+        (call AllHorizontal (replicate 127 t), of_many Truth) ∷ (call AllHorizontal (replicate 128 t), of_many Truth) ∷ (call AnyHorizontal (a ∷ replicate 126 t), Err InvalidOperation) ∷ (call AnyHorizontal (a ∷ replicate 127 t), Err InvalidOperation) ∷
+        (call AnyHorizontal (replicate 126 t ++ a ∷ []), Err InvalidOperation) ∷ (call AllHorizontal (replicate 127 t ++ a ∷ []), Err InvalidOperation) ∷ []) }
+    ensures kinds { let columns : Columns = (codes "a", int8) ∷ (codes "t", Truth) ∷ [] in
+        Gives (kinds_in [] columns) (
+        (call AllHorizontal (a ∷ t ∷ c ∷ []), ColumnNotFound ∷ []) ∷ (core (call AllHorizontal (a ∷ t ∷ c ∷ [])), InvalidOperation ∷ ColumnNotFound ∷ []) ∷ (call AllHorizontal (a ∷ t ∷ []), InvalidOperation ∷ []) ∷ []) }
+    ensures values { let table = beside Truth int8 ((yes, number 0) ∷ (no, number 2) ∷ (null, null) ∷ []) in
+        Gives (means table) (
+        (call AllHorizontal [], Done (yes ∷ [])) ∷ (call AnyHorizontal [], Done (no ∷ [])) ∷ (call AllHorizontal (a ∷ []), Done (yes ∷ no ∷ null ∷ [])) ∷ (call AnyHorizontal (b ∷ []), Done (no ∷ yes ∷ null ∷ [])) ∷
+        (call AllHorizontal (b ∷ []), Done (no ∷ yes ∷ null ∷ [])) ∷ (call AnyHorizontal (one ∷ []), Done (yes ∷ [])) ∷ (call AllHorizontal (nothing ∷ []), Done (null ∷ [])) ∷
+        (call AllHorizontal (a ∷ equal b one ∷ []), Done (no ∷ no ∷ null ∷ [])) ∷ (call AnyHorizontal (a ∷ nothing ∷ equal b b ∷ []), Done (yes ∷ yes ∷ null ∷ [])) ∷ []) }
+    ensures strict { let columns : Columns = (codes "t", Truth) ∷ (codes "a", int8) ∷ [] in
+        Gives (is_strict [] columns) ((call AllHorizontal (t ∷ []), true) ∷ (call AllHorizontal (a ∷ []), false) ∷ (call AllHorizontal (cast_as NonStrict Truth a ∷ []), true) ∷ (call AnyHorizontal [], true) ∷ (call AnyHorizontal (t ∷ nothing ∷ []), false) ∷ []) }
 {}
 
 /// From 128 operands on each is of truth values or null. They have a common length.

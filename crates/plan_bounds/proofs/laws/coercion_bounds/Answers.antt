@@ -1,6 +1,6 @@
 use Rattle.plan_bounds.proofs.CountLemmas.{written_casts, written_others, written_idle, settled_casts, settled_others, settled_idle}
 use Rattle.plan_bounds.proofs.StrictLemmas.{strict_plan_needs}
-use Rattle.plan_bounds.proofs.WideLemmas.{typed_wide, written_wide, strict_plan_wide}
+use Rattle.plan_bounds.proofs.WideLemmas.{plan_wide, written_wide}
 use Rattle.plan_bounds.proofs.laws.coercion_bounds.Goals as goal
 
 pub returns-clause-casts : goal.returns-clause-casts
@@ -15,11 +15,11 @@ returns-clause-idle c registry schema tree typed h = written_idle registry schem
 pub returns-clause-settled : goal.returns-clause-settled
 returns-clause-settled c registry schema tree = (settled_casts registry schema tree, settled_others registry schema tree, settled_idle registry schema tree)
 
+pub returns-clause-taken : goal.returns-clause-taken
+returns-clause-taken c = plan_wide
+
 pub returns-clause-written : goal.returns-clause-written
-returns-clause-written c registry schema tree typed h = (typed_wide registry schema tree typed h, written_wide registry schema tree typed h)
+returns-clause-written c = written_wide
 
 pub returns-clause-plans : goal.returns-clause-plans
 returns-clause-plans c = strict_plan_needs
-
-pub returns-clause-wide_plans : goal.returns-clause-wide_plans
-returns-clause-wide_plans c = strict_plan_wide

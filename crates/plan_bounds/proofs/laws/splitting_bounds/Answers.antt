@@ -1,4 +1,5 @@
 use Rattle.plan_bounds.proofs.PartLemmas.{split_casts, split_nodes, split_size, split_idle}
+use Rattle.plan_bounds.proofs.WideLemmas.{split_wide}
 use Rattle.plan_bounds.proofs.laws.splitting_bounds.Goals as goal
 
 pub returns-clause-casts : goal.returns-clause-casts
@@ -12,3 +13,6 @@ returns-clause-idle c = split_idle
 
 pub returns-clause-size : goal.returns-clause-size
 returns-clause-size c = split_size
+
+pub returns-clause-wide : goal.returns-clause-wide
+returns-clause-wide c = split_wide

@@ -1,5 +1,6 @@
 use Rattle.std.proofs.Common.{refl, [], Ok, ap, ◌∙◌}
-use Rattle.plan_dsl.proofs.AliasLemmas.{core_same}
+use Rattle.plan_dsl.proofs.ChainLemmas.{its_chain}
+use Rattle.plan_dsl.proofs.CoreLemmas.{core_same}
 use Rattle.plan_dsl.proofs.LiteralLemmas.{untyped_is_number}
 use Rattle.plan_dsl.proofs.OperandLemmas.{operands_same, operands_strict}
 use Rattle.plan_dsl.proofs.OpLemmas.{keeps_rule}
@@ -34,5 +35,8 @@ returns-clause-cores c registry schema tree typed typing =
     record {
       none = same.none refl;
       typing = same.typing;
-      meaning = λ rows. (core_same registry (record { schema = schema; rows = rows }) tree typed typing).meaning;
+      meaning = λ rows admits. (core_same registry (record { schema = schema; rows = rows }) tree typed typing).meaning admits;
     }
+
+pub returns-clause-horizontals : goal.returns-clause-horizontals
+returns-clause-horizontals c = its_chain

@@ -12,7 +12,7 @@ use Rattle.plan_dsl.specs.Typing.{own_typed, typing_rule}
 use Rattle.plan_arena.specs.Layers.{op_of, inputs_of}
 use Rattle.plan_arena.specs.Items.{expression_layer, numbers}
 use Rattle.plan_infer.specs.KeptTypes.{IsRuled, Says, by_itself, typings_at}
-use Rattle.plan_infer.proofs.TypingLemmas.{if_err, if_ok, if_ok_both, refused_so}
+use Rattle.plan_infer.proofs.TypingLemmas.{if_err, if_ok, refused_so}
 use Rattle.plan_infer.proofs.FunctionTypeLemmas.{function_named}
 use Rattle.plan_infer.proofs.SignedLemmas.{IsSignedItem, item_signed, named_over, named_signed, over_item}
 use Rattle.plan_infer.proofs.typing.own_typing.Goals as goal
@@ -66,7 +66,7 @@ returns-in-Alias-clause-ok c =
 pub returns-in-Alias-clause-name : goal.returns-in-Alias-clause-name
 returns-in-Alias-clause-name c =
     let is = ap expression_layer c.in-Alias.is in
-    if_ok c.alias_typing.result _ _ (λ own named. by_itself (ap (λ (n : Node). n.0) named) (λ names. ap (λ l. op_label (op_of l) names) is ∙ sym (ap (λ l. op_label (op_of l) []) is))) c.alias_typing.ensures.name
+    if_ok c.alias_typing.result _ _ (λ own named. by_itself (ap (λ (n : Node). n.0) named) (λ names over. ap (λ l. op_label (op_of l) names) is ∙ sym (ap (λ l. op_label (op_of l) []) is))) c.alias_typing.ensures.name
 
 pub returns-in-Alias-clause-err : goal.returns-in-Alias-clause-err
 returns-in-Alias-clause-err c = if_err c.alias_typing.result _ _ (λ error none. no_room none) c.alias_typing.ensures.err
@@ -102,7 +102,7 @@ pub returns-in-Function-clause-name : goal.returns-in-Function-clause-name
 returns-in-Function-clause-name c =
     let is = ap expression_layer c.in-Function.is in
     let inputs = c.requires.listed ∙ ap inputs_of is in
-    if_ok_both c.function_typing.result _ _ _ (λ own says named. function_named c.args.types.now c.in-Function.function c.in-Function.input c.args.node.0 (expression_layer c.args.item.now) (numbers c.args.inputs.now) own is inputs says (ap (λ (n : Node). n.0) named)) c.function_typing.ensures.ok c.function_typing.ensures.name
+    if_ok c.function_typing.result _ _ (λ own named. function_named c.args.types.now c.in-Function.function c.in-Function.input c.args.node.0 (expression_layer c.args.item.now) (numbers c.args.inputs.now) own is inputs (ap (λ (n : Node). n.0) named)) c.function_typing.ensures.name
 
 pub returns-in-Function-clause-err : goal.returns-in-Function-clause-err
 returns-in-Function-clause-err c =

@@ -25,7 +25,7 @@ returns-clause-right g c = λ registry right.
     let own : Inferred = record { name = c.args.node; dtype = c.in_ok-dtype.dtype; many = true; operands = c.none.result } in
     let found = c.in-Ok.ensures.ok in
     let ruled = column_ruled registry schema c.args.name.now _ own found.0 found.1 c.in_ok-dtype.ensures.ok refl c.none.ensures in
-    right_kept registry schema c.args.arena.now types c.add.new.self c.args.node.0 op [] own c.requires.held c.requires.tree tt (over_kept (λ typed. IsRuled registry schema op typed own) types [] [] refl ruled) (by_itself refl (λ names. refl)) c.add.ensures.stays c.add.ensures.only right
+    right_kept registry schema c.args.arena.now types c.add.new.self c.args.node.0 op [] own c.requires.held c.requires.tree tt (over_kept (λ typed. IsRuled registry schema op typed own) types [] [] refl ruled) (by_itself refl (λ names over. refl)) c.add.ensures.stays c.add.ensures.only right
 
 pub returns-clause-only : goal.returns-clause-only
 returns-clause-only g c = λ n kept. ⊎_elim

@@ -24,7 +24,7 @@ returns-clause-right g c = λ registry schema right.
     let types = c.args.types.now in
     let own : Inferred = record { name = c.args.node; dtype = c.in_ok-dtype.dtype; many = false; operands = c.none.result } in
     let ruled = literal_ruled registry schema (literal_type value) (literal_value value) own c.in_ok-dtype.ensures.ok refl c.none.ensures in
-    right_kept registry schema c.args.arena.now types c.add.new.self c.args.node.0 op [] own c.requires.held c.requires.tree tt (over_kept (λ typed. IsRuled registry schema op typed own) types [] [] refl ruled) (by_itself refl (λ names. refl)) c.add.ensures.stays c.add.ensures.only right
+    right_kept registry schema c.args.arena.now types c.add.new.self c.args.node.0 op [] own c.requires.held c.requires.tree tt (over_kept (λ typed. IsRuled registry schema op typed own) types [] [] refl ruled) (by_itself refl (λ names over. refl)) c.add.ensures.stays c.add.ensures.only right
 
 pub returns-clause-only : goal.returns-clause-only
 returns-clause-only g c = λ n kept. ⊎_elim

@@ -7,14 +7,14 @@ use Rattle.plan_infer.specs.KeptTypes.{IsNamedBy, by_first, by_itself}
 use Rattle.plan_infer.proofs.examples.functions.names_of_functions.Goals as goal
 
 pub returns-clause-function : goal.returns-clause-function
-returns-clause-function c = λ table. by_itself refl (λ names. refl)
+returns-clause-function c = λ table. by_itself refl (λ names over. refl)
 
 pub returns-clause-field : goal.returns-clause-field
-returns-clause-field c = λ table. by_itself refl (λ names. refl)
+returns-clause-field c = λ table. by_itself refl (λ names over. refl)
 
 unnamed : (table : TypeTable) → table.entries.items ≡ [] → IsNamedBy table (FunctionOp IsNull []) 1 (0 ∷ []) 1 → ⊥
 unnamed table none (by_itself at same) =
-    let differs : FromColumn ≡ FromLiteral = ap (λ (l : Label). l.origin) (same (column_label (codes "a") ∷ [])) in
+    let differs : FromColumn ≡ FromLiteral = ap (λ (l : Label). l.origin) (same (column_label (codes "a") ∷ []) tt) in
     cc
 unnamed table none (by_first m rest first inputs found at same) =
     let missing : None ≡ Some (Some first) = sym (ap (λ es. slice_get es (m - table.first)) none) ∙ found.1 in

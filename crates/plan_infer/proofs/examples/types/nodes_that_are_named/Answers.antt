@@ -9,7 +9,7 @@ use Rattle.plan_infer.proofs.TableLemmas.{keeps_one}
 use Rattle.plan_infer.proofs.examples.types.nodes_that_are_named.Goals as goal
 
 pub returns-clause-column : goal.returns-clause-column
-returns-clause-column c = λ table first entries. by_itself refl (λ names. refl)
+returns-clause-column c = λ table first entries. by_itself refl (λ names over. refl)
 
 pub returns-clause-sum : goal.returns-clause-sum
 returns-clause-sum c = λ left n d m o table first entries.

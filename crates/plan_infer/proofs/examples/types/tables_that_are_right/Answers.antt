@@ -12,6 +12,7 @@ use Rattle.plan_dsl.specs.Typing.{Ruling, Typed, column_type, own_typed, rule, r
 use Rattle.plan_dsl.specs.OperatorTypes.{Taken}
 use Rattle.plan_dsl.proofs.TypingLemmas.{ok_same}
 use Rattle.plan_arena.specs.Items.{HoldsExpression}
+use Rattle.plan_arena.proofs.LabelLemmas.{none_over}
 use Rattle.plan_infer.specs.declared.type_table.Inferred.{Inferred}
 use Rattle.plan_infer.specs.declared.type_table.TypeTable.{TypeTable}
 use Rattle.plan_infer.specs.KeptTypes.{AllKept, AreOperands, GivesName, IsKept, IsTypedNode, KeepsEntry, typed_of}
@@ -37,7 +38,7 @@ column_typed own table n d m o = record {
   tree = a;
   denotes = ([], refl, tt);
   typed = ap Ok (says own dtype.Int8 true d m);
-  name = record { op = ColumnOp (codes "a"); inputs = []; held = subst (λ k. HoldsExpression a_items k (ColumnOp (codes "a")) []) (sym n) refl; gives = λ names. refl };
+  name = record { op = ColumnOp (codes "a"); inputs = []; held = subst (λ k. HoldsExpression a_items k (ColumnOp (codes "a")) []) (sym n) refl; gives = λ names over. refl };
   inputs = λ op inputs h. subst (AllByRecursion (IsKept table)) (sym (column_inputs op inputs h)) tt;
   operands = λ op inputs typed ruling h kept rules.
       let none = kept_one table [] typed [] (subst (λ ns. AllKept table ns typed) (column_inputs op inputs h) kept) tt in
@@ -109,7 +110,7 @@ returns-clause-other_name c = λ own n d m o table found.
     let same = one_expression sum_items 2 found.tree sum found.denotes (0 ∷ 1 ∷ [], refl, (([], refl, tt), (([], refl, tt), tt))) in
     let name = subst (λ t. GivesName sum_items own.name.0 t) same found.name in
     let held = subst (λ k. HoldsExpression sum_items k name.op name.inputs) n name.held in
-    let e = ap (λ o. op_label o []) (second_op name.op name.inputs held) ∙ name.gives [] in
+    let e = ap (λ o. op_label o []) (second_op name.op name.inputs held) ∙ name.gives [] (none_over name.inputs) in
     let differs : false ≡ true = ap (λ (l : Label). same_name (codes "a") l.name) e in
     cc
 
@@ -123,7 +124,7 @@ returns-clause-node_of_a_sum c = λ left ln ld lm lo right rn rd rm ro own n d m
       tree = sum;
       denotes = (0 ∷ 1 ∷ [], refl, (([], refl, tt), (([], refl, tt), tt)));
       typed = ap Ok (says own dtype.Int32 true d m);
-      name = record { op = ColumnOp (codes "a"); inputs = []; held = subst (λ k. HoldsExpression sum_items k (ColumnOp (codes "a")) []) (sym n) refl; gives = λ names. refl };
+      name = record { op = ColumnOp (codes "a"); inputs = []; held = subst (λ k. HoldsExpression sum_items k (ColumnOp (codes "a")) []) (sym n) refl; gives = λ names over. refl };
       inputs = λ op inputs h. subst (AllByRecursion (IsKept table)) (sym (sum_inputs op inputs h)) known;
       operands = λ op inputs typed ruling h kept rules.
           let typings = kept_one table (0 ∷ 1 ∷ []) (of_type int8 ∷ of_type int32 ∷ []) typed are (subst (λ ns. AllKept table ns typed) (sum_inputs op inputs h) kept) in

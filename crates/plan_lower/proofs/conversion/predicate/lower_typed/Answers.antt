@@ -11,6 +11,7 @@ use Rattle.plan_arena.proofs.ItemLemmas.{grown_held, length-grown}
 use Rattle.plan_arena.proofs.OperandNameLemmas.{plan_names}
 use Rattle.plan_infer.specs.Typed.{DenotesKnown}
 use Rattle.plan_coerce.specs.Optimizer.{AreWrittenOut}
+use Rattle.plan_bounds.proofs.WideLemmas.{plan_wide}
 use Rattle.plan_lower.proofs.ProjectionLemmas.{one_output, root_typed, has_predicate, refused_predicate, other_type_refused, not_true, not_false, earlier_kept}
 use Rattle.plan_infer.proofs.TableLemmas.{kept_type, type_of}
 use Rattle.plan_lower.proofs.conversion.predicate.lower_typed.Goals as goal
@@ -25,7 +26,7 @@ returns-then-ne-clause-err c =
     let schema = columns c.args.schema.now in
     let tree = plain_tree c.args.predicate in
     let n = (named_node c.in_ok-expr_ir.expr_ir).expression in
-    let is = one_output r schema (length c.args.arena.now) c.add_typed.new.arena tree n c.node.result.0 (ty c.get.result.now.dtype) c.in_ok-expr_ir.ensures.denotes (plan_names c.args.predicate) c.node.ensures (kept_type r schema c.add_typed.new.arena c.add_typed.new.types c.in_ok-expr_ir.ensures.right c.node.result.0 _ (type_of c.add_typed.new.types c.node.result.0 c.get.result.now c.get.ensures)) in
+    let is = one_output r schema (length c.args.arena.now) c.add_typed.new.arena tree n c.node.result.0 (ty c.get.result.now.dtype) c.in_ok-expr_ir.ensures.denotes (plan_names c.args.predicate) (plan_wide c.args.predicate) c.node.ensures (kept_type r schema c.add_typed.new.arena c.add_typed.new.types c.in_ok-expr_ir.ensures.right c.node.result.0 _ (type_of c.add_typed.new.types c.node.result.0 c.get.result.now c.get.ensures)) in
     other_type_refused r schema (length c.args.arena.now) c.add_typed.new.arena _ c.at_top.result is.1 (not_true _ (sym c.ne.ensures ∙ c.if-ne.true)) c.at_top.ensures
 
 pub returns-in-Ok-clause-ok : goal.returns-in-Ok-clause-ok
@@ -34,7 +35,7 @@ returns-in-Ok-clause-ok c =
     let schema = columns c.args.schema.now in
     let first = length c.args.arena.now in
     let n = (named_node c.in_ok-expr_ir.expr_ir).expression in
-    let is = one_output r schema first c.add_typed.new.arena (plain_tree c.args.predicate) n c.node.result.0 (ty c.get.result.now.dtype) c.in_ok-expr_ir.ensures.denotes (plan_names c.args.predicate) c.node.ensures (kept_type r schema c.add_typed.new.arena c.add_typed.new.types c.in_ok-expr_ir.ensures.right c.node.result.0 _ (type_of c.add_typed.new.types c.node.result.0 c.get.result.now c.get.ensures)) in
+    let is = one_output r schema first c.add_typed.new.arena (plain_tree c.args.predicate) n c.node.result.0 (ty c.get.result.now.dtype) c.in_ok-expr_ir.ensures.denotes (plan_names c.args.predicate) (plan_wide c.args.predicate) c.node.ensures (kept_type r schema c.add_typed.new.arena c.add_typed.new.types c.in_ok-expr_ir.ensures.right c.node.result.0 _ (type_of c.add_typed.new.types c.node.result.0 c.get.result.now c.get.ensures)) in
     let truth = same_type_exact (ty c.get.result.now.dtype) Truth (not_false _ (sym c.ne.ensures ∙ c.if-ne.false)) in
     let roots = ap (λ k. k ∷ []) c.node-2.ensures in
     let coerced = c.in-Ok.ensures.ok first (root_typed r schema first c.add_typed.new.arena _ _ is.1 roots) in
@@ -46,7 +47,7 @@ returns-in-Ok-clause-kept c =
     let schema = columns c.args.schema.now in
     let first = length c.args.arena.now in
     let n = (named_node c.in_ok-expr_ir.expr_ir).expression in
-    let is = one_output r schema first c.add_typed.new.arena (plain_tree c.args.predicate) n c.node.result.0 (ty c.get.result.now.dtype) c.in_ok-expr_ir.ensures.denotes (plan_names c.args.predicate) c.node.ensures (kept_type r schema c.add_typed.new.arena c.add_typed.new.types c.in_ok-expr_ir.ensures.right c.node.result.0 _ (type_of c.add_typed.new.types c.node.result.0 c.get.result.now c.get.ensures)) in
+    let is = one_output r schema first c.add_typed.new.arena (plain_tree c.args.predicate) n c.node.result.0 (ty c.get.result.now.dtype) c.in_ok-expr_ir.ensures.denotes (plan_names c.args.predicate) (plan_wide c.args.predicate) c.node.ensures (kept_type r schema c.add_typed.new.arena c.add_typed.new.types c.in_ok-expr_ir.ensures.right c.node.result.0 _ (type_of c.add_typed.new.types c.node.result.0 c.get.result.now c.get.ensures)) in
     let roots = ap (λ k. k ∷ []) c.node-2.ensures in
     let coerced = c.in-Ok.ensures.ok first (root_typed r schema first c.add_typed.new.arena _ _ is.1 roots) in
     earlier_kept c.args.arena.now c.add_typed.new.arena c.coerce_root.new.arena c.in_ok-expr_ir.ensures.grows coerced.below
@@ -57,7 +58,7 @@ coerce_root-requires c =
     let schema = columns c.args.schema.now in
     let first = length c.args.arena.now in
     let n = (named_node c.in_ok-expr_ir.expr_ir).expression in
-    let is = one_output r schema first c.add_typed.new.arena (plain_tree c.args.predicate) n c.node.result.0 (ty c.get.result.now.dtype) c.in_ok-expr_ir.ensures.denotes (plan_names c.args.predicate) c.node.ensures (kept_type r schema c.add_typed.new.arena c.add_typed.new.types c.in_ok-expr_ir.ensures.right c.node.result.0 _ (type_of c.add_typed.new.types c.node.result.0 c.get.result.now c.get.ensures)) in
+    let is = one_output r schema first c.add_typed.new.arena (plain_tree c.args.predicate) n c.node.result.0 (ty c.get.result.now.dtype) c.in_ok-expr_ir.ensures.denotes (plan_names c.args.predicate) (plan_wide c.args.predicate) c.node.ensures (kept_type r schema c.add_typed.new.arena c.add_typed.new.types c.in_ok-expr_ir.ensures.right c.node.result.0 _ (type_of c.add_typed.new.types c.node.result.0 c.get.result.now c.get.ensures)) in
     record {
       right = c.in_ok-expr_ir.ensures.right;
       within = omega (arith, c.len-start.ensures, length-grown c.args.arena.now c.add_typed.new.arena c.in_ok-expr_ir.ensures.grows);
@@ -76,7 +77,7 @@ returns-in-Err-clause-kept c =
     let schema = columns c.args.schema.now in
     let first = length c.args.arena.now in
     let n = (named_node c.in_ok-expr_ir.expr_ir).expression in
-    let is = one_output r schema first c.add_typed.new.arena (plain_tree c.args.predicate) n c.node.result.0 (ty c.get.result.now.dtype) c.in_ok-expr_ir.ensures.denotes (plan_names c.args.predicate) c.node.ensures (kept_type r schema c.add_typed.new.arena c.add_typed.new.types c.in_ok-expr_ir.ensures.right c.node.result.0 _ (type_of c.add_typed.new.types c.node.result.0 c.get.result.now c.get.ensures)) in
+    let is = one_output r schema first c.add_typed.new.arena (plain_tree c.args.predicate) n c.node.result.0 (ty c.get.result.now.dtype) c.in_ok-expr_ir.ensures.denotes (plan_names c.args.predicate) (plan_wide c.args.predicate) c.node.ensures (kept_type r schema c.add_typed.new.arena c.add_typed.new.types c.in_ok-expr_ir.ensures.right c.node.result.0 _ (type_of c.add_typed.new.types c.node.result.0 c.get.result.now c.get.ensures)) in
     let roots = ap (λ k. k ∷ []) c.node-2.ensures in
     let stays = c.in-Err.ensures.below first (root_typed r schema first c.add_typed.new.arena _ _ is.1 roots) in
     earlier_kept c.args.arena.now c.add_typed.new.arena c.coerce_root.new.arena c.in_ok-expr_ir.ensures.grows stays

@@ -8,6 +8,7 @@ use Rattle.plan_dsl.specs.Expressions.{plain_tree}
 use Rattle.plan_dsl.specs.Registry.{registry}
 use Rattle.plan_arena.specs.Items.{named_node}
 use Rattle.plan_arena.proofs.OperandNameLemmas.{plan_names}
+use Rattle.plan_bounds.proofs.WideLemmas.{plan_wide}
 use Rattle.plan_lower.proofs.ProjectionLemmas.{refused_output, adds_output}
 use Rattle.plan_infer.proofs.TypingLemmas.{AllHaveType}
 use Rattle.plan_infer.proofs.TableLemmas.{kept_type, type_of}
@@ -23,7 +24,7 @@ returns-clause-ok c =
     let before = c.in_ok-before.ensures in
     let absent = sym before.before ∙ c.if-before.false in
     let named = c.in_ok-name.ensures.ok ∙ c.output_name.ensures in
-    adds_output (registry c.args.udfs.now) (columns c.args.schema.now) _ c.add_typed.new.arena (plain_tree c.args.expr) (named_node c.in_ok-expr_ir.expr_ir) c.node.result.0 (columns c.args.output.now) (columns c.put.new.self) _ _ _ c.in_ok-expr_ir.ensures.name c.in_ok-expr_ir.ensures.denotes (plan_names c.args.expr) c.node.ensures typed absent named named before.ok
+    adds_output (registry c.args.udfs.now) (columns c.args.schema.now) _ c.add_typed.new.arena (plain_tree c.args.expr) (named_node c.in_ok-expr_ir.expr_ir) c.node.result.0 (columns c.args.output.now) (columns c.put.new.self) _ _ _ c.in_ok-expr_ir.ensures.name c.in_ok-expr_ir.ensures.denotes (plan_names c.args.expr) (plan_wide c.args.expr) c.node.ensures typed absent named named before.ok
 
 pub returns-then-before-clause-err : goal.returns-then-before-clause-err
 returns-then-before-clause-err c =

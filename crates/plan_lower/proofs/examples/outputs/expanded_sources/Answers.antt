@@ -12,7 +12,7 @@ returns-clause-outputs c = record {
     outputs = as_it_is a int8 ∷ [];
     selects = record {
       trees_are = refl;
-      each = (record { typed = refl; same = record { typing = refl; name = refl; meaning = λ rows. refl }; strict = refl; casts = refl; names = (tt, tt) }, tt);
+      each = (record { typed = refl; same = record { typing = refl; name = refl; meaning = λ rows. refl }; strict = refl; casts = refl; names = (tt, tt); wide = refl }, tt);
       distinct = (refl, tt);
     };
     denotes = (refl, ([], refl, tt), tt);
@@ -38,7 +38,7 @@ returns-clause-predicate c = record {
     output = as_it_is keep Truth;
     filters = record {
       tree_is = refl;
-      is = record { typed = refl; same = record { typing = refl; name = refl; meaning = λ rows. refl }; strict = refl; casts = refl; names = (tt, tt) };
+      is = record { typed = refl; same = record { typing = refl; name = refl; meaning = λ rows. refl }; strict = refl; casts = refl; names = (tt, tt); wide = refl };
       truth = refl;
     };
     denotes = (refl, ([], refl, tt), tt);

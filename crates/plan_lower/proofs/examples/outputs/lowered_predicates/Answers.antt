@@ -7,7 +7,7 @@ use Rattle.plan_lower.proofs.examples.outputs.lowered_predicates.Goals as goal
 filters : FiltersBy [] truths keep (as_it_is keep Truth)
 filters = record {
   tree_is = refl;
-  is = record { typed = refl; same = record { typing = refl; name = refl; meaning = λ rows. refl }; strict = refl; casts = refl; names = (tt, tt) };
+  is = record { typed = refl; same = record { typing = refl; name = refl; meaning = λ rows. refl }; strict = refl; casts = refl; names = (tt, tt); wide = refl };
   truth = refl;
 }
 

@@ -9,7 +9,7 @@ use Rattle.plan_lower.proofs.examples.outputs.lowered_selects.Goals as goal
 selects : SelectsTo [] (one_column int8) (a ∷ []) (as_it_is a int8 ∷ [])
 selects = record {
   trees_are = refl;
-  each = (record { typed = refl; same = record { typing = refl; name = refl; meaning = λ rows. refl }; strict = refl; casts = refl; names = (tt, tt) }, tt);
+  each = (record { typed = refl; same = record { typing = refl; name = refl; meaning = λ rows. refl }; strict = refl; casts = refl; names = (tt, tt); wide = refl }, tt);
   distinct = (refl, tt);
 }
 

@@ -10,7 +10,7 @@ returns-clause-columns c = record {
   trees_are = refl;
   nodes_are = refl;
   columns_are = refl;
-  each = (record { denotes = ([], (omega arith, refl), tt); typed = refl; names = (tt, tt) }, (record { denotes = ([], (omega arith, refl), tt); typed = refl; names = (tt, tt) }, tt));
+  each = (record { denotes = ([], (omega arith, refl), tt); typed = refl; names = (tt, tt); wide = refl }, (record { denotes = ([], (omega arith, refl), tt); typed = refl; names = (tt, tt); wide = refl }, tt));
   distinct = (refl, (refl, tt));
 }
 
@@ -24,7 +24,7 @@ returns-clause-one_too_few c = λ p. no_outputs p.outputs p.trees_are p.columns_
 pub returns-clause-one_more : goal.returns-clause-one_more
 returns-clause-one_more c = record {
   output = output b 1 (of_type int32);
-  is = record { denotes = ([], (omega arith, refl), tt); typed = refl; names = (tt, tt) };
+  is = record { denotes = ([], (omega arith, refl), tt); typed = refl; names = (tt, tt); wide = refl };
   tree_is = refl;
   node_is = refl;
   new_name = refl;

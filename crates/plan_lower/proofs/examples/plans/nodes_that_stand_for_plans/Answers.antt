@@ -24,10 +24,10 @@ abbrev output : Name → Lowered
 output name = let column : Expression = node (ColumnOp name) no_more in record { tree = column; typed = record { type = Truth; many = true }; after = column }
 
 keep_lowered : IsLowered [] (truths (codes "keep")) (output (codes "keep"))
-keep_lowered = record { typed = refl; same = record { typing = refl; name = refl; meaning = λ rows. refl }; strict = refl; casts = refl; names = (tt, tt) }
+keep_lowered = record { typed = refl; same = record { typing = refl; name = refl; meaning = λ rows. refl }; strict = refl; casts = refl; names = (tt, tt); wide = refl }
 
 a_lowered : IsLowered [] (truths (codes "a")) (output (codes "a"))
-a_lowered = record { typed = refl; same = record { typing = refl; name = refl; meaning = λ rows. refl }; strict = refl; casts = refl; names = (tt, tt) }
+a_lowered = record { typed = refl; same = record { typing = refl; name = refl; meaning = λ rows. refl }; strict = refl; casts = refl; names = (tt, tt); wide = refl }
 
 a_expanded : (sources : List Source) → expansions [] (truths (codes "a")) sources ≡ Ok (a ∷ []) → HasExpandedOutputs [] (truths (codes "a")) a_items sources (node_named (codes "a") 0 ∷ []) (truths (codes "a"))
 a_expanded sources expanded = record {
@@ -80,5 +80,5 @@ pub returns-clause-scan : goal.returns-clause-scan
 returns-clause-scan c = λ plans is. record {
   lowered = node (scan_op None []) no_more;
   denotes = scan_denotes [] plans 0 None [] (item_at plans _ 0 _ is refl);
-  built = record { well_formed = (refl, tt); source_schema = refl; lowered_schema = refl; accepted = (refl, tt); strict = (tt, tt); names = (tt, tt); split = (tt, tt); fits = λ tables fits. fits; same = λ tables fits. refl; bounds = scan_bounded [] None [] };
+  built = record { well_formed = (refl, tt); source_schema = refl; lowered_schema = refl; accepted = (refl, tt); strict = (tt, tt); names = (tt, tt); wide = (tt, tt); split = (tt, tt); fits = λ tables fits. fits; same = λ tables fits. refl; bounds = scan_bounded [] None [] };
 }
