@@ -1,6 +1,5 @@
 -- Names of functions' operands: an expression without its aliases has one for each, where none were recorded.
-use Rattle.std.proofs.Common.{◌≡◌, ℕ, nat_lt, Bool, true, false, List, [], ◌∷◌, refl}
-use Rattle.std.proofs.lemmas.Bool.{and_parts}
+use Rattle.std.proofs.Common.{◌≡◌, Bool, true, false, List, [], ◌∷◌, refl}
 use Rattle.plan_dsl.specs.declared.aggregate.AggExpr.{AggExpr}
 use Rattle.plan_dsl.specs.declared.aggregate.AggExpr.TheVariants as agg
 use Rattle.plan_dsl.specs.declared.expr.Expr.{Expr, Row_of-Expr, end_of-Expr, more_of-Expr, Held-Expr-Window-2, None', Some'}
@@ -10,15 +9,14 @@ use Rattle.plan_dsl.specs.declared.function_expr.FunctionExpr.TheVariants.{AllHo
 use Rattle.plan_dsl.specs.declared.operator.Operator.{Operator}
 use Rattle.plan_dsl.specs.declared.operator.Operator.TheVariants.{LogicalAnd, LogicalOr}
 use Rattle.plan_dsl.specs.Aliases.{all_pruned, chain, chained, core, is_written_out, put_together}
-use Rattle.plan_dsl.specs.Expressions.{behind_order, function_source, input_tree, plain_tree, row_trees, tree_of}
+use Rattle.plan_dsl.specs.Expressions.{behind_order, function_source, input_tree, plain_tree, row_trees}
 use Rattle.plan_dsl.specs.Functions.{is_horizontal}
 use Rattle.plan_dsl.specs.Literals.{settled}
 use Rattle.plan_dsl.specs.Names.{Label, op_label}
 use Rattle.plan_dsl.specs.Ops.{Op, BinaryOp, AliasOp, FunctionOp, Expression}
-use Rattle.plan_dsl.specs.Signatures.{least_horizontal}
 use Rattle.plan_dsl.specs.Sources.{SourceOp, all_unwritten, unwritten}
 use Rattle.plan_dsl.specs.Trees.{Trees, node, no_more, more, fold_all, tree_count}
-use Rattle.plan_dsl.proofs.AliasLemmas.{core_label}
+use Rattle.plan_dsl.proofs.AliasLemmas.{core_label, horizontal_alone}
 use Rattle.plan_arena.specs.Runs.{AllNameOperands, AreNamesFor, NamesOperands}
 
 -- ---- a query's expression records none
@@ -99,9 +97,6 @@ function_names AllHorizontal true labels children h alike below = chained_names 
 function_names AnyHorizontal true labels children h alike below = chained_names LogicalOr false children below
 function_names _ true labels children h alike below = absurd (not_both (h refl))
 function_names _ false labels children h alike below = (alike, below)
-
-horizontal_alone : (function : FunctionExpr) (count : ℕ) → is_written_out (FunctionOp function []) count ≡ true → is_horizontal function ≡ true
-horizontal_alone function count h = (and_parts (is_horizontal function) (nat_lt count least_horizontal) h).0
 
 mutual
   core_names : (tree : Expression) → HasNone tree → NamesOperands (core tree)

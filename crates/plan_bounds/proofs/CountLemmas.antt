@@ -20,18 +20,19 @@ use Rattle.plan_dsl.specs.Counts.{op_casts, expression_casts}
 use Rattle.plan_dsl.specs.Literals.{settled, settled_type}
 use Rattle.plan_dsl.specs.Ops.{Op, LiteralOp, BinaryOp, CastOp, AliasOp, Expression}
 use Rattle.plan_dsl.specs.Registry.{Registry}
-use Rattle.plan_dsl.specs.Trees.{Trees, node, no_more, more, fold_all, AllRelated}
+use Rattle.plan_dsl.specs.Trees.{Trees, node, no_more, more, fold_all}
 use Rattle.plan_dsl.specs.Typing.{Typed, Ruling, rule, types_of, typed_to, typed_before, ruled_as, cast_taken, typing, typing_all}
-use Rattle.plan_dsl.specs.Strictness.{CanBecome, IsSame, cast_to, changed, number_as, number_literal, integer_has, as_operand, as_operands}
+use Rattle.plan_dsl.specs.Strictness.{CanBecome, cast_to, changed, number_as, number_literal, integer_has, as_operand, as_operands}
 use Rattle.plan_dsl.proofs.LiteralLemmas.{becomes_literal, literal_typing, untyped, untyped_is_number}
 use Rattle.plan_dsl.proofs.OpLemmas.{keeps_rule}
 use Rattle.plan_dsl.proofs.SignatureLemmas.{AllBecome, IsTakenTo, makes, passes}
-use Rattle.plan_dsl.proofs.OperandLemmas.{after_typed, operands_same}
-use Rattle.plan_dsl.proofs.SameLemmas.{node_same, same_then, typings_same}
+use Rattle.plan_dsl.proofs.OperandLemmas.{after_typed}
+use Rattle.plan_dsl.proofs.SameLemmas.{typings_same}
 use Rattle.plan_dsl.proofs.TypingLemmas.{by_children, by_no_children, typed_parts}
 use Rattle.plan_coerce.specs.Coercion.{fitted, fitted_by, coerced, coerced_all}
 use Rattle.plan_coerce.specs.InlinedCasts.{all_inlined, cast_of, in_place_of, inlined, is_logical, literal_cast, written_out}
-use Rattle.plan_coerce.proofs.InliningLemmas.{all_inlined_same, gives_literal, inlined_same, some_where}
+use Rattle.plan_coerce.proofs.InliningLemmas.{all_inlined_same, gives_literal, some_where}
+use Rattle.plan_coerce.proofs.NameLemmas.{all_coerced_same, coerced_same}
 use Rattle.plan_bounds.specs.Counts.{changed_casts, operand_casts, operands_casts, ruled_casts, node_casts, implicit_casts, all_implicit_casts, needed_casts, other_nodes_step, other_nodes, is_idle, idle_casts, all_idle_casts}
 
 -- ---- coercion keeps types, so each operand is what the typing of its tree says
@@ -41,26 +42,6 @@ module _ (registry : Registry) (schema : Columns) where
   coerced_is op children typed ruling types rules =
       ap (λ r. node op (fitted registry schema op r (coerced_all registry schema children))) types
       ∙ ap (λ r. node op (fitted_by r (types_of typed) (coerced_all registry schema children))) rules
-
-  mutual
-    pub coerced_same : (tree : Expression) (typed : Typed) → typing registry schema tree ≡ Ok typed → IsSame registry schema tree (coerced registry schema tree)
-    coerced_same (node op children) typed h =
-        let p = typed_parts registry schema op children typed h in
-        let each = all_coerced_same children p.below p.children_typed in
-        let after = coerced_all registry schema children in
-        let types = typings_same registry schema children after each ∙ p.children_typed in
-        subst (IsSame registry schema (node op children)) (sym (coerced_is op children p.below p.ruling p.children_typed p.rules))
-        (same_then registry schema _ (node op after) _ (node_same registry schema op children after each) (operands_same registry schema op after p.below types p.ruling p.rules))
-
-    all_coerced_same : (trees : Trees Op) (typed : List Typed) → typing_all registry schema trees ≡ Ok typed → AllRelated (IsSame registry schema) trees (coerced_all registry schema trees)
-    all_coerced_same no_more typed h = tt
-    all_coerced_same (more tree trees) typed h =
-        by_children (λ _. AllRelated (IsSame registry schema) (more tree trees) (coerced_all registry schema (more tree trees))) _ _ typed h (λ t ts first rest. (coerced_same tree t first, all_coerced_same trees ts rest))
-
-  -- so does what is written out
-  pub written_same : (tree : Expression) (typed : Typed) → typing registry schema tree ≡ Ok typed → IsSame registry schema tree (written_out registry schema tree)
-  written_same tree typed h =
-      same_then registry schema tree (coerced registry schema tree) (written_out registry schema tree) (coerced_same tree typed h) (inlined_same registry schema (coerced registry schema tree))
 
 -- a type that lacks the number isn't the one that the number has alone
 other_type : (number : ℤ) (own target : Ty) → type_alone (Untyped number) ≡ Some own → integer_has target number ≡ false → same_type own target ≡ false

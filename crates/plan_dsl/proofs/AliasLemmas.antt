@@ -79,7 +79,7 @@ settled_function AnyHorizontal true labels children h = sym (settled_chained Log
 settled_function _ true labels children h = absurd (not_both (h refl))
 settled_function _ false labels children h = refl
 
-horizontal_alone : (function : FunctionExpr) (count : ℕ) → is_written_out (FunctionOp function []) count ≡ true → is_horizontal function ≡ true
+pub horizontal_alone : (function : FunctionExpr) (count : ℕ) → is_written_out (FunctionOp function []) count ≡ true → is_horizontal function ≡ true
 horizontal_alone function count h = (and_parts (is_horizontal function) (nat_lt count least_horizontal) h).0
 
 -- a number at the top gets its type under aliases as it does without them

@@ -67,7 +67,7 @@ fn node_copied(expr: &Expr, column: Option<&PlSmallStr>, alloc: Global) -> Resul
         let copy = one_copied(expr, column, alloc)?;
         return Ok(copy);
     }
-    if has_several(expr) {
+    if expr.has_several() {
         let copy = several_copied(expr, column, alloc)?;
         return Ok(copy);
     }
@@ -92,20 +92,6 @@ fn has_one(expr: &Expr) -> bool
             | Expr::Agg(_)
             | Expr::KeepName(_)
             | Expr::RenameAlias { .. }
-    )
-}
-
-// Whether it has several.
-fn has_several(expr: &Expr) -> bool
-    ensures { result ≡ has_several (top_op (tree_of expr.now)) }
-{
-    matches!(
-        expr,
-        Expr::BinaryExpr { .. }
-            | Expr::Slice { .. }
-            | Expr::Gather { .. }
-            | Expr::Filter { .. }
-            | Expr::Ternary { .. }
     )
 }
 

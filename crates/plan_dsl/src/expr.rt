@@ -1,11 +1,10 @@
 //! Expressions over the columns of a frame.
-ghost use Rattle.std.specs.Prelude.{◌≡◌, ◌&&◌, map, true, false, IfOk, IfErr};
+ghost use Rattle.std.specs.Prelude.{◌≡◌, ◌&&◌, true, false, IfOk, IfErr};
 ghost use Rattle.std.specs.List.{fold, list_all};
-ghost use Rattle.std.specs.Option.{option_map};
 ghost use Rattle.plan_dsl.specs.Trees.{children_from, top_op};
 ghost use Rattle.plan_dsl.specs.Expressions.{order_trees, tree_of, trees_of, way_of};
-ghost use Rattle.plan_dsl.specs.Copies.{has_one, has_several, put, put_below};
-ghost use Rattle.plan_dsl.specs.Expansion.{is_marker, with_column_put};
+ghost use Rattle.plan_dsl.specs.Copies.{has_several, put};
+ghost use Rattle.plan_dsl.specs.Expansion.{with_column_put};
 ghost use Rattle.plan_dsl.specs.SameExpressions.{operator_rank, options_rank, order_writes, same_order, same_trees, trees_writes};
 ghost use Rattle.plan_dsl.specs.Sources.{is_plain, same_source, same_source_op, source_op_writes, source_writes};
 ghost use Rattle.plan_types.specs.Errors.{no_memory};
@@ -279,6 +278,20 @@ impl Expr {
     {
         let copy = copied(self, None, alloc)?;
         Ok(copy)
+    }
+
+    /// Whether it is over two operands or three.
+    pub fn has_several(&self) -> bool
+        ensures { result ≡ has_several (top_op (tree_of self.now)) }
+    {
+        matches!(
+            self,
+            Expr::BinaryExpr { .. }
+                | Expr::Slice { .. }
+                | Expr::Gather { .. }
+                | Expr::Filter { .. }
+                | Expr::Ternary { .. }
+        )
     }
 
     /// A copy with the column of that name in place of all markers.

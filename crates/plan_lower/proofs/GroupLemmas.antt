@@ -29,6 +29,7 @@ use Rattle.plan_dsl.specs.declared.expr.Expr.{Expr}
 use Rattle.plan_dsl.proofs.ExpansionLemmas.{what_is_plain}
 use Rattle.plan_dsl.specs.Expansion.{expansions, key_names}
 use Rattle.plan_dsl.specs.Typing.{Typed, typing}
+use Rattle.plan_dsl.proofs.GroupLemmas.{or_right}
 use Rattle.plan_dsl.proofs.KernelLemmas.{grouped_agrees}
 use Rattle.plan_dsl.proofs.ResolvingLemmas.{group_resolved}
 use Rattle.plan_dsl.proofs.RuleLemmas.{aggregate_refused_kind, group_schema, key_refused_kind, no_keys_kind}
@@ -54,10 +55,6 @@ use Rattle.plan_lower.specs.Projection.{IsOutput, IsOutputRefusal, no_room, unty
 use Rattle.plan_lower.proofs.BuiltLemmas.{agree, each_after_typed, each_named, each_strict, each_typed, each_wide, each_within, output_label, output_typed, over_built, refused_over, unexpanded_then, unresolved_refused}
 
 -- ---- names
-
-or_right : (a b : Bool) → b ≡ true → (a || b) ≡ true
-or_right true b h = refl
-or_right false b h = h
 
 or_kept : (a b c : Bool) → (b ≡ true → c ≡ true) → (a || b) ≡ true → (a || c) ≡ true
 or_kept true b c later h = refl

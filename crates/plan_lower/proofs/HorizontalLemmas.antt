@@ -24,6 +24,7 @@ use Rattle.plan_dsl.specs.Names.{Label, label_of, op_label}
 use Rattle.plan_dsl.specs.Ops.{Op, BinaryOp, CastOp, FunctionOp, LiteralOp, Expression}
 use Rattle.plan_dsl.specs.Sources.{Plain, SourceOp, all_unwritten, is_plain, unwritten}
 use Rattle.plan_dsl.specs.Trees.{Trees, node, no_more, more, children_from, fold_all, tree_count}
+use Rattle.plan_dsl.proofs.AliasLemmas.{chain_label}
 use Rattle.plan_dsl.proofs.ExprLemmas.{function_listed, function_plain}
 use Rattle.plan_arena.specs.declared.aexpr.AExpr.{AExpr}
 use Rattle.plan_arena.specs.declared.aexpr.AExpr.TheVariants.{BinaryExpr}
@@ -139,10 +140,6 @@ pub chain_end : (operator : Operator) (from : ℕ) (keep : Bool) (items : List A
 chain_end operator from keep items all left so_far before none = subst (λ exprs. InChain operator from items all (all_pruned keep (children_from (map plain_tree exprs))) so_far) none before
 
 -- ---- names
-
-chain_label : (operator : Operator) (tree : Expression) (trees : Trees Op) → label_of (chain operator tree trees) ≡ label_of tree
-chain_label operator tree no_more = refl
-chain_label operator tree (more next rest) = chain_label operator (node (BinaryOp operator) (more tree (more next no_more))) rest
 
 chained_label : (operator : Operator) (nothing : Bool) (tree : Expression) (trees : Trees Op) → label_of (chained operator nothing (more tree trees)) ≡ label_of tree
 chained_label operator nothing tree no_more = refl

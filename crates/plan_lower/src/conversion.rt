@@ -7,7 +7,7 @@ pub mod expr_field;
 pub mod expr_to_ir;
 mod groups;
 mod horizontals;
-mod nodes;
+pub mod nodes;
 mod predicate;
 mod projection;
 mod put_copy;

@@ -3,7 +3,7 @@
 //! It prints both reports.
 #![tactic(auto)]
 
-ghost use Rattle.std.specs.Prelude.{◌≡◌, ℕ, Option, map, IfErr, IfOk};
+ghost use Rattle.std.specs.Prelude.{◌≡◌, ℕ, Option, IfErr, IfOk};
 ghost use Rattle.std.specs.Str.{chars};
 ghost use Rattle.plan_types.specs.Errors.{no_memory};
 ghost use Rattle.plan_types.specs.Schemas.{Columns};
@@ -11,13 +11,10 @@ ghost use Rattle.plan_dsl.specs.Expressions.{tree_of};
 ghost use Rattle.plan_dsl.specs.Plans.{Named, Plan, plan_tree};
 ghost use Rattle.plan_dsl.specs.Ops.{Expression};
 ghost use Rattle.plan_dsl.specs.Registry.{registry};
-ghost use Rattle.plan_arena.specs.Items.{DenotesPlan, Grows, named_node};
-ghost use Rattle.plan_lower.specs.Lowering.{AreFilters};
+ghost use Rattle.plan_arena.specs.Items.{DenotesPlan};
 ghost use Rattle.planner.specs.Planning.{HasTree, IsFilteredScan, StandsFor, column, filtered_scan, flagged_query, split_scan};
 
 use own_rule::relax::relax_casts;
-use plan_arena::arena::{Arena, Node};
-use plan_arena::expr_ir::ExprIR;
 use plan_arena::ir::IR;
 use plan_arena::plan::IRPlan;
 use plan_dsl::builder::DslBuilder;
@@ -26,6 +23,7 @@ use plan_dsl::operator::Operator;
 use plan_dsl::plan::DslPlan;
 use plan_dsl::udfs::Udfs;
 use plan_lower::conversion::dsl_to_ir::PlanLowering;
+use plan_lower::conversion::nodes::add_filters;
 use plan_properties::splitting::split_predicate;
 use plan_report::report::report;
 use plan_types::dtype::{CastOptions, DataType};
@@ -95,27 +93,6 @@ pub fn relaxed(plan: IRPlan, udfs: &Udfs) -> Result<IRPlan, PlanError>
     let parts = split_predicate(predicate, &expr_arena, udfs)?;
     let lp_top = add_filters(input, parts, &mut lp_arena)?;
     Ok(IRPlan::new(lp_top, lp_arena, expr_arena))
-}
-
-// Adds filters over an input, the last of them first.
-fn add_filters(
-    input: Node,
-    predicates: Vec<ExprIR>,
-    lp_arena: &mut Arena<IR>,
-) -> Result<Node, PlanError>
-    ensures ok { IfOk result (λ node. AreFilters lp_arena.new node.0 (map named_node predicates.items) input.0) }
-    ensures err { IfErr result (λ error. error ≡ no_memory) }
-    ensures grows { Grows lp_arena.old lp_arena.new }
-{
-    let mut node = input;
-    let mut predicates = predicates;
-    while let Some(predicate) = predicates.pop() {
-        node = lp_arena.add(IR::Filter {
-            input: node,
-            predicate,
-        })?;
-    }
-    Ok(node)
 }
 
 fn main(rt: HostRuntime) -> anyhow::Result<()> {

@@ -333,25 +333,11 @@ fn add_inputs(expr: Expr, keep: bool, arena: &mut Arena<AExpr>) -> Result<AExpr,
     ensures grows { Grows arena.old arena.new }
     ensures err { IfErr result (λ error. error ≡ no_memory) }
 {
-    if has_several(&expr) {
+    if expr.has_several() {
         add_several(expr, keep, arena)
     } else {
         add_others(expr, keep, arena)
     }
-}
-
-// Whether it is over two inputs or three.
-fn has_several(expr: &Expr) -> bool
-    ensures { result ≡ has_several (top_op (tree_of expr.now)) }
-{
-    matches!(
-        expr,
-        Expr::BinaryExpr { .. }
-            | Expr::Slice { .. }
-            | Expr::Gather { .. }
-            | Expr::Filter { .. }
-            | Expr::Ternary { .. }
-    )
 }
 
 // The item of an expression over none, over one, or over one and lists, whose inputs are added first.

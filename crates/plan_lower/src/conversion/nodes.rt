@@ -119,8 +119,8 @@ fn lower_filter(
     })
 }
 
-// Adds filters over an input, the last of them first.
-fn add_filters(
+/// Adds filters over an input, the last of them first: the node of the first, or the input where there is none.
+pub fn add_filters(
     input: Node,
     predicates: Vec<ExprIR>,
     lp_arena: &mut Arena<IR>,
