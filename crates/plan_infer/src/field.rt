@@ -26,11 +26,21 @@ use std::marker::Brand;
 use std::sync::ledger::{Blank, Ledger};
 
 /// What an expression is asked for: a column of its own, or one value for each group of rows.
-#[derive(Clone, Copy, Default)]
+#[derive(Clone, Copy, Debug)]
 pub enum Context {
-    #[default]
     Default,
     Aggregation,
+}
+
+impl Default for Context {
+    ghost use Rattle.std.specs.Prelude.{◌≡◌};
+    ghost use Rattle.plan_infer.specs.declared.field.Context.TheVariants as contexts;
+
+    ghost is_default = { λ context. context ≡ contexts.Default };
+
+    fn default() -> Self {
+        Context::Default
+    }
 }
 
 impl TypeTable {
