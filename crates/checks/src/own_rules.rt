@@ -137,7 +137,14 @@ fn each_logical_and_of_truths_is_made_plain(rt: HostRuntime) {
         let mut arena = Arena::new(rt.alloc());
         let expr = logical_ands(&rt, rt.alloc(), count);
         let root = added(&rt, expr, &mut arena);
-        coerce_root(&rt, &PlainAndRule, root, &mut arena, &scope, &DataType::Boolean);
+        coerce_root(
+            &rt,
+            &PlainAndRule,
+            root,
+            &mut arena,
+            &scope,
+            &DataType::Boolean,
+        );
         assert_number(&rt, operators_of(&arena, Operator::LogicalAnd), 0);
         assert_number(&rt, operators_of(&arena, Operator::And), count);
         drop(arena);

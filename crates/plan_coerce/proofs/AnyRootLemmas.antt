@@ -186,9 +186,9 @@ module _ (is_settled : Expression → Bool) (measure : Expression → ℕ) (rela
     root_begun n s = elim (typing registry schema u) as (λ r. typing registry schema u ≡ r → IsBegun is_settled items' (at ∷ []) n) [
       | Err kind ↦ λ h. placed_begun (λ typed e. let differs : Err kind ≡ Ok typed = sym h ∙ e in cc) [] [] (λ m other a. absurd a) n s
       | Ok own ↦ λ h. elim (is_known own.type) as (λ b. is_known own.type ≡ b → IsBegun is_settled items' (at ∷ []) n) [
-          | true ↦ λ k. placed_begun (λ typed e. let same : own ≡ typed = let both : Ok own ≡ Ok typed = sym h ∙ e in cc in ap (λ (x : Typed). is_known x.type) (sym same) ∙ k) [] [] (λ m other a. absurd a) n s
-          | false ↦ λ k. beside_begun (p.numbers u own d h k) own h k n s
-        ] refl
+        | true ↦ λ k. placed_begun (λ typed e. let same : own ≡ typed = let both : Ok own ≡ Ok typed = sym h ∙ e in cc in ap (λ (x : Typed). is_known x.type) (sym same) ∙ k) [] [] (λ m other a. absurd a) n s
+        | false ↦ λ k. beside_begun (p.numbers u own d h k) own h k n s
+      ] refl
     ] refl
 
     placed_turn : (behind roots work rest done : List ℕ) → AreTrees items (at ∷ behind) → reverse roots ≡ done ++ rest → at ∷ behind ≡ work ++ rest → (SettlesNoNumber is_settled registry schema → AllByRecursion (IsKnownAt registry schema items) work) → AllByRecursion (IsBegun is_settled items work) done → Settling is_settled registry schema items' (at ∷ behind) roots
