@@ -78,49 +78,38 @@ fn lower(
             Ok(lowered)
         }
         DslPlan::Filter { input, predicate } => {
-            add_over(input, Step::Filter(predicate), expr_arena, lp_arena, udfs)
+            let step = Step::Filter(predicate);
+            add_over(input, step, expr_arena, lp_arena, udfs)
         }
         DslPlan::Select {
             expr,
             input,
             options,
-        } => add_over(
-            input,
-            Step::Select(expr, options),
-            expr_arena,
-            lp_arena,
-            udfs,
-        ),
+        } => {
+            let step = Step::Select(expr, options);
+            add_over(input, step, expr_arena, lp_arena, udfs)
+        }
         DslPlan::HStack {
             exprs,
             input,
             options,
-        } => add_over(
-            input,
-            Step::HStack(exprs, options),
-            expr_arena,
-            lp_arena,
-            udfs,
-        ),
+        } => {
+            let step = Step::HStack(exprs, options);
+            add_over(input, step, expr_arena, lp_arena, udfs)
+        }
         DslPlan::GroupBy {
             input,
             keys,
             aggs,
             maintain_order,
-        } => add_over(
-            input,
-            Step::GroupBy(keys, aggs, maintain_order),
-            expr_arena,
-            lp_arena,
-            udfs,
-        ),
-        DslPlan::MapFunction { input, function } => add_over(
-            input,
-            Step::Function(function),
-            expr_arena,
-            lp_arena,
-            udfs,
-        ),
+        } => {
+            let step = Step::GroupBy(keys, aggs, maintain_order);
+            add_over(input, step, expr_arena, lp_arena, udfs)
+        }
+        DslPlan::MapFunction { input, function } => {
+            let step = Step::Function(function);
+            add_over(input, step, expr_arena, lp_arena, udfs)
+        }
     }
 }
 
