@@ -160,7 +160,7 @@ fn texts_of_any_length_are_read_as_numbers(rt: HostRuntime) {
 fn lists_of_any_size_are_cast(rt: HostRuntime) {
     let from = deep_type(&rt, rt.alloc(), 1, &Int64);
     let to = deep_type(&rt, rt.alloc(), 1, &Boolean);
-    for count in SIZES {
+    for count in [0, 1, 2, 300, 100_000] {
         let value = Value::List(parts_of(&rt, rt.alloc(), count, &Value::Int(5)));
         let want = Value::List(parts_of(&rt, rt.alloc(), count, &Value::Boolean(true)));
         assert_cast(&rt, rt.alloc(), &value, &from, &to, &want);

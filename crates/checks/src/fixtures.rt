@@ -18,7 +18,7 @@ pub(crate) const NO_MEMORY: &str = "there is memory";
 pub(crate) const SIZES: [usize; 5] = [0, 1, 2, 50, 300];
 
 /// How many bytes the tests give to a name.
-pub(crate) const LENGTHS: [usize; 5] = [0, 1, 2, 1_001, 100_000];
+pub(crate) const LENGTHS: [usize; 5] = [0, 1, 2, 1_001, 1_000_000];
 
 /// How many levels the tests give to what is nested.
 pub(crate) const LEVELS: [usize; 5] = [0, 1, 2, 3, 60];

@@ -7,7 +7,7 @@ use std::alloc::Global;
 use std::process::Abort;
 
 // So many items are in a long list.
-const MANY: usize = 100_000;
+const MANY: usize = 300_000;
 
 // A select of the text's items, over the empty table.
 fn select_of(rt: &impl Abort, alloc: Global, items: &str) -> String {

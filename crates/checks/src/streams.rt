@@ -144,6 +144,24 @@ fn a_full_page_takes_no_more(rt: HostRuntime) {
     assert!(rt; writer.faults() == 1);
 }
 
+// So many bytes go to a page of as many, in one piece.
+fn assert_handed_on(rt: &impl Abort, alloc: Global, count: usize) {
+    let text = vec![in alloc; b'a'; count].expect(rt, NO_MEMORY);
+    let mut page = vec![in alloc; b' '; count].expect(rt, NO_MEMORY);
+    let mut writer = WriteAdapter::new(page.as_mut_slice());
+    assert!(rt; write_all(&mut writer, text.as_slice()) == Ok(()));
+    assert!(rt; writer.faults() == 0);
+    drop(writer);
+    assert!(rt; page.as_slice() == text.as_slice());
+}
+
+#[test]
+fn an_adapter_hands_on_pieces_of_any_size(rt: HostRuntime) {
+    for count in [0, 1, 2, 20_000_000] {
+        assert_handed_on(&rt, rt.alloc(), count);
+    }
+}
+
 #[test]
 fn a_growing_sink_takes_all_texts(rt: HostRuntime) {
     let text = vec![in rt.alloc(); b'a'; 100_000].expect(&rt, NO_MEMORY);
