@@ -129,5 +129,4 @@ fn types_are_kept_in_front_of_any_number(rt: HostRuntime) {
         assert_number(&rt, types.len(), count);
         drop(types);
     }
-    assert!(&rt; matches!(Context::default(), Context::Default));
 }
