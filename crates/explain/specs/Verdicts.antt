@@ -72,6 +72,11 @@ text_words (json.Float path) = Some (codes "a number is wrong at \"" ++ string_b
 text_words (json.Name path) = Some (codes "a table's name is wrong at \"" ++ string_bytes path ++ codes "\"\n")
 text_words json.NoMemory = None
 
+-- why a text has no typed plan
+abbrev pub refusal_words : Refusal → Option (List ℕ)
+refusal_words (Text error) = text_words error
+refusal_words (BrokenPlan error) = plan_words error.kind error.place
+
 -- ---- verdicts
 
 -- the text has a typed plan, and this is the report of what its top denotes: a line for each node, with its schema

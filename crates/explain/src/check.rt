@@ -4,9 +4,8 @@ ghost use Rattle.plan_dsl.specs.Registry.{registry};
 ghost use Rattle.explain.specs.Verdicts.{StandsForText, RefusesText, IsVerdict};
 
 use crate::answers::{Refusal, Verdict};
-use crate::fault::{plan_detail, text_detail};
+use crate::fault::detail;
 use crate::lowered::notes;
-use crate::words::{plan_in_words, text_in_words};
 use plan_arena::plan::IRPlan;
 use plan_dsl::udfs::Udfs;
 use plan_json::read::read_query;
@@ -19,12 +18,11 @@ pub fn lower_text(alloc: Global, text: &[u8], udfs: &Udfs) -> Result<IRPlan, Ref
     ensures ok { IfOk result (StandsForText (registry udfs.now) text.now) }
     ensures err { IfErr result (RefusesText (registry udfs.now) text.now) }
 {
-    let query = read_query(alloc, text)?;
-    let plan = query.plan.to_alp(alloc, udfs)?;
-    Ok(plan)
+    let query = read_query(alloc, text).map_err(Refusal::Text)?;
+    query.plan.to_alp(alloc, udfs).map_err(Refusal::Plan)
 }
 
-/// The verdict on a text. Want of memory has none.
+/// The verdict on a text. Out of memory has none.
 pub fn check(alloc: Global, text: &[u8], udfs: &Udfs) -> Result<Verdict, AllocError>
     ensures { IfOk result (IsVerdict (registry udfs.now) text.now) }
 {
@@ -34,14 +32,9 @@ pub fn check(alloc: Global, text: &[u8], udfs: &Udfs) -> Result<Verdict, AllocEr
             let report = report(alloc, &plan)?;
             Ok(Verdict::Typed { report, notes })
         }
-        Err(Refusal::Text(error)) => {
-            let words = text_in_words(alloc, &error)?;
-            let detail = text_detail(alloc, text, &error)?;
-            Ok(Verdict::Broken { words, detail })
-        }
-        Err(Refusal::Plan(error)) => {
-            let words = plan_in_words(alloc, &error)?;
-            let detail = plan_detail(alloc, text, error.kind, udfs)?;
+        Err(refusal) => {
+            let words = refusal.in_words(alloc)?;
+            let detail = detail(alloc, text, &refusal, udfs)?;
             Ok(Verdict::Broken { words, detail })
         }
     }

@@ -1,31 +1,33 @@
-//! The expressions of a lowered plan, as a person reads them.
-ghost use Rattle.std.specs.Prelude.{◌≡◌, [], ◌∷◌, map, MatchOption, IfOk, IfSome};
+//! The expressions of a lowered plan, as a person reads them: by the words that a query has for them. Kinds of plans and of
+//! expressions are told here alone.
+ghost use Rattle.std.specs.Prelude.{map};
 ghost use Rattle.plan_arena.specs.Denotation.{DenotesTree};
-ghost use Rattle.plan_arena.specs.Items.{HoldsExpression, HoldsPlan, named_node, plan_layer};
-ghost use Rattle.plan_arena.specs.Layers.{inputs_of};
+ghost use Rattle.plan_arena.specs.Items.{HoldsExpression, HoldsPlan, named_node};
 ghost use Rattle.plan_report.specs.Casts.{DenoteOutputs};
 
-use crate::forms::{is_open, item_words, mode_words, quoted};
 use plan_arena::aexpr::AExpr;
 use plan_arena::arena::{Arena, Node};
-use plan_arena::expr_ir::{ExprIR, ExprIRs, OutputName};
+use plan_arena::expr_ir::ExprIRs;
 use plan_arena::ir::IR;
 use plan_arena::plan::IRPlan;
-use plan_dsl::plan::DslPlan;
+use plan_dsl::aggregate::GroupByMethod;
+use plan_dsl::function_expr::FunctionExpr;
+use plan_dsl::literal::LiteralValue;
+use plan_dsl::sort_options::SortOptions;
 use plan_dsl::udfs::Udfs;
-use plan_infer::expr_ir_field::ExprIRTyping;
+use plan_infer::aexpr_field::AExprTyping;
 use plan_infer::field::Context;
-use plan_lower::conversion::dsl_to_ir::PlanLowering;
-use plan_report::report::report;
-use plan_types::dtype::DataType;
-use plan_types::error::PlanError;
+use plan_report::report::dtype_text;
+use plan_types::dtype::CastOptions;
 use plan_types::schema::Schema;
-use plan_types::text::PlSmallStr;
+use serde_json::Value;
 use std::alloc::{AllocError, Global};
+use std::fmt::Write;
 
 /// Where expressions stand: in an arena, over a frame of a schema.
-#[derive(Clone, Copy)]
+#[derive(Drop)]
 struct Site<'a> {
+    alloc: Global,
     arena: &'a Arena<AExpr>,
     schema: &'a Schema,
     udfs: &'a Udfs,
@@ -36,214 +38,210 @@ pub(crate) fn notes(alloc: Global, plan: &IRPlan, udfs: &Udfs) -> Result<Vec<Str
     requires { DenotesTree (HoldsPlan plan.now.expr_arena plan.now.lp_arena) plan.now.lp_top.0 }
 {
     let mut notes = Vec::new(alloc);
-    let mut next = Some(plan.lp_top);
+    let mut node = plan.lp_top;
     for _level in 0..plan.lp_arena.len() {
-        if let Some(node) = next {
-            let mut note = String::new(alloc);
-            next = push_note(alloc, &mut note, plan, node, udfs)?;
-            notes.push(note)?;
-        }
+        let item = plan.lp_arena.get(node);
+        let Some(input) = item.get_input() else {
+            break;
+        };
+        let site = Site {
+            alloc,
+            arena: &plan.expr_arena,
+            schema: schema_at(plan, input),
+            udfs,
+        };
+        let note = match item {
+            IR::Filter { predicate, .. } => {
+                let text = site.typed(predicate.node(), Context::Default)?;
+                format!(in alloc; "    {text}\n")?
+            }
+            IR::Select { expr, .. } => site.lines(expr, Context::Default)?,
+            IR::HStack { exprs, .. } => site.lines(exprs, Context::Default)?,
+            IR::GroupBy { keys, aggs, .. } => {
+                let keys = site.lines(keys, Context::Default)?;
+                let aggs = site.lines(aggs, Context::Aggregation)?;
+                format!(in alloc; "{keys}{aggs}")?
+            }
+            IR::DataFrameScan { .. } | IR::SimpleProjection { .. } | IR::Invalid => {
+                String::new(alloc)
+            }
+        };
+        notes.push(note)?;
+        node = input;
     }
     Ok(notes)
 }
 
-// Appends the lines of a node's expressions, and answers the node's input, if it has one.
-fn push_note(
-    alloc: Global,
-    note: &mut String,
-    plan: &IRPlan,
-    node: Node,
-    udfs: &Udfs,
-) -> Result<Option<Node>, AllocError>
-    requires { DenotesTree (HoldsPlan plan.now.expr_arena plan.now.lp_arena) node.0 }
-    ensures { IfOk result (λ next. IfSome next (λ input. DenotesTree (HoldsPlan plan.now.expr_arena plan.now.lp_arena) input.0)) }
-{
-    let Some(input) = input_of(plan, node) else {
-        return Ok(None);
-    };
-    let site = Site {
-        arena: &plan.expr_arena,
-        schema: schema_at(plan, input),
-        udfs,
-    };
-    match plan.lp_arena.get(node) {
-        IR::Filter { predicate, .. } => {
-            push_line(alloc, note, site, predicate, Context::Default, false)?;
-        }
-        IR::Select { expr, .. } => push_lines(alloc, note, site, expr, Context::Default)?,
-        IR::HStack { exprs, .. } => push_lines(alloc, note, site, exprs, Context::Default)?,
-        IR::GroupBy { keys, aggs, .. } => {
-            push_lines(alloc, note, site, keys, Context::Default)?;
-            push_lines(alloc, note, site, aggs, Context::Aggregation)?;
-        }
-        _ => {}
-    }
-    Ok(Some(input))
-}
-
-// The input of a node that has one.
-fn input_of(plan: &IRPlan, node: Node) -> Option<Node>
-    requires { DenotesTree (HoldsPlan plan.now.expr_arena plan.now.lp_arena) node.0 }
-    ensures { IfSome result (λ input. DenotesTree (HoldsPlan plan.now.expr_arena plan.now.lp_arena) input.0) }
-{
-    only_input(plan.lp_arena.get(node))
-}
-
-// The only input of an item that has one.
-fn only_input(item: &IR) -> Option<Node>
-    ensures { IfSome result (λ input. inputs_of (plan_layer item.now) ≡ input.0 ∷ []) }
-{
-    match item {
-        IR::Filter { input, .. }
-        | IR::GroupBy { input, .. }
-        | IR::HStack { input, .. }
-        | IR::Select { input, .. }
-        | IR::SimpleProjection { input, .. } => Some(*input),
-        IR::DataFrameScan { .. } | IR::Invalid => None,
-    }
-}
-
-// The schema of a node's frame.
-fn schema_at(plan: &IRPlan, node: Node) -> &Schema
+/// The schema of a node's frame.
+pub(crate) fn schema_at(plan: &IRPlan, node: Node) -> &Schema
     requires { DenotesTree (HoldsPlan plan.now.expr_arena plan.now.lp_arena) node.0 }
 {
     plan.lp_arena.get(node).schema_ref(&plan.lp_arena)
 }
 
-// Appends a line for each expression.
-fn push_lines(
-    alloc: Global,
-    note: &mut String,
-    site: Site<'_>,
-    outputs: &ExprIRs,
-    context: Context,
-) -> Result<(), AllocError>
-    requires { DenoteOutputs site.arena.now (map named_node outputs.now.items.items) }
-{
-    for output in outputs.items.as_slice() {
-        push_line(alloc, note, site, output, context, true)?;
-    }
-    Ok(())
-}
-
-// Appends the line of an expression: its text, its type, and its name where that counts.
-fn push_line(
-    alloc: Global,
-    note: &mut String,
-    site: Site<'_>,
-    output: &ExprIR,
-    context: Context,
-    named: bool,
-) -> Result<(), AllocError>
-    requires { DenotesTree (HoldsExpression site.arena.now) (named_node output.now).expression }
-{
-    let node = output.node();
-    let words = words(alloc, site, node, node, false)?;
-    let dtype = type_of(alloc, site, node, context)?;
-    let dtype = type_words(alloc, &dtype, site.udfs)?;
-    if !named {
-        return note.push_str(format!(in alloc; "    {words}: {dtype}\n")?.as_str());
-    }
-    let name = quoted(alloc, output.output_name().as_str())?;
-    note.push_str(format!(in alloc; "    {words}: {dtype} as {name}\n")?.as_str())
-}
-
-// The text of the expression at a node, in parentheses where it is asked for and needs any. Lowering adds the nodes that a
-// query has from the bottom up, and behind all of them the casts that it puts in. So a cast was put in where its number is
-// greater than that of the node over it.
-fn words(
-    alloc: Global,
-    site: Site<'_>,
-    node: Node,
-    over: Node,
-    closed: bool,
-) -> Result<String, AllocError>
-    requires { DenotesTree (HoldsExpression site.arena.now) node.0 }
-{
-    let item = site.arena.get(node);
-    let inputs = item.input_nodes();
-    let is_put_in = node.0 > over.0;
-    let closes = is_open(item) && !is_put_in;
-    let mut texts = Vec::new(alloc);
-    for index in 0..inputs.len() {
-        let text = words(alloc, site, inputs.at(index), node, closes)?;
-        texts.push(text)?;
-    }
-    let text = match item {
-        AExpr::Cast {
-            expr,
-            dtype,
-            options,
-        } => {
-            let text = texts.pop().unwrap_or(String::new(alloc));
-            let to = type_words(alloc, dtype, site.udfs)?;
-            if is_put_in {
-                let from = type_of(alloc, site, *expr, Context::Default)?;
-                let from = type_words(alloc, &from, site.udfs)?;
-                return format!(in alloc; "cast({text}: {from} to {to})");
-            }
-            let mode = mode_words(*options);
-            format!(in alloc; "{text} as {to}{mode}")?
+impl Site<'_> {
+    // A line for each expression, with its name.
+    fn lines(&self, outputs: &ExprIRs, context: Context) -> Result<String, AllocError>
+        requires { DenoteOutputs self.now.arena.now (map named_node outputs.now.items.items) }
+    {
+        let mut lines = String::new(self.alloc);
+        for output in outputs.items.as_slice() {
+            let text = self.typed(output.node(), context)?;
+            let name = quoted(self.alloc, output.output_name().as_str())?;
+            write!(lines, "    {text} as {name}\n")?;
         }
-        _ => item_words(alloc, item, texts.as_slice())?,
-    };
-    if closed && closes {
-        return format!(in alloc; "({text})");
+        Ok(lines)
     }
-    Ok(text)
-}
 
-// The type of the expression at a node. In a lowered plan each has one, so that only memory can be lacking.
-fn type_of(
-    alloc: Global,
-    site: Site<'_>,
-    node: Node,
-    context: Context,
-) -> Result<DataType, AllocError>
-    requires { DenotesTree (HoldsExpression site.arena.now) node.0 }
-{
-    let Ok(name) = PlSmallStr::new(alloc, "") else {
-        return Err(AllocError);
-    };
-    let named = ExprIR::new(node, OutputName::Alias(name));
-    match named.dtype(alloc, site.schema, context, site.arena, site.udfs) {
-        Ok(dtype) => Ok(dtype),
-        Err(_) => Err(AllocError),
+    // The text of the expression at a node, and its type. In a lowered plan each has one, so only memory can be lacking.
+    #[cycle(words)]
+    fn typed(&self, node: Node, context: Context) -> Result<String, AllocError>
+        requires { DenotesTree (HoldsExpression self.now.arena.now) node.0 }
+    {
+        let text = self.words(node, node, false)?;
+        let item = self.arena.get(node);
+        let dtype = item
+            .to_dtype(self.alloc, self.schema, context, self.arena, self.udfs)
+            .map_err(|_| AllocError)?;
+        format!(in self.alloc; "{text}: {}", dtype_text(self.alloc, &dtype)?)
+    }
+
+    // The text of the expression at a node, in parentheses where it is asked for and needs any. Lowering adds the nodes that
+    // a query has from the bottom up, and behind all of them the casts that it puts in. So a cast was put in where its
+    // number is greater than that of the node over it.
+    #[cycle(words)]
+    fn words(&self, node: Node, over: Node, closed: bool) -> Result<String, AllocError>
+        requires { DenotesTree (HoldsExpression self.now.arena.now) node.0 }
+    {
+        let item = self.arena.get(node);
+        if let AExpr::Cast { expr, dtype, .. } = item
+            && node.0 > over.0
+        {
+            let input = self.typed(*expr, Context::Default)?;
+            let dtype = dtype_text(self.alloc, dtype)?;
+            return format!(in self.alloc; "cast({input} to {dtype})");
+        }
+        let is_open = matches!(item, AExpr::BinaryExpr { .. } | AExpr::Cast { .. });
+        let inputs = item.input_nodes();
+        let mut texts = Vec::new(self.alloc);
+        for index in 0..inputs.len() {
+            texts.push(self.words(inputs.at(index), node, is_open)?)?;
+        }
+        let text = item_words(self.alloc, item, texts.as_slice())?;
+        if closed && is_open {
+            return format!(in self.alloc; "({text})");
+        }
+        Ok(text)
     }
 }
 
-// The text of a type of columns: what a report has of a scan with such a column.
-fn type_words(alloc: Global, dtype: &DataType, udfs: &Udfs) -> Result<String, AllocError> {
-    let Ok(scan) = scan_of(alloc, dtype) else {
-        return Err(AllocError);
-    };
-    let Ok(plan) = scan.to_alp(alloc, udfs) else {
-        return Err(AllocError);
-    };
-    let text = report(alloc, &plan)?;
-    let field = schema_words(text.as_str());
-    let field = field.strip_prefix("\"\" ").unwrap_or(field);
-    String::from_str(alloc, field.strip_suffix(")").unwrap_or(field))
+// The text of an item over the texts of its inputs, in their order.
+fn item_words(alloc: Global, item: &AExpr, inputs: &[String]) -> Result<String, AllocError> {
+    match (item, inputs) {
+        (AExpr::Column(name), _) => name_words(alloc, name.as_str()),
+        (AExpr::Literal(value), _) => literal_words(alloc, value),
+        (AExpr::BinaryExpr { op, .. }, [left, right]) => format!(in alloc; "{left} {op} {right}"),
+        (AExpr::Cast { dtype, options, .. }, [input]) => {
+            // What it does with a value that has no place in its target.
+            let mode = match options {
+                CastOptions::Strict => "",
+                CastOptions::NonStrict => " or null",
+                CastOptions::Overflowing => " wrapping",
+            };
+            format!(in alloc; "{input} as {}{mode}", dtype_text(alloc, dtype)?)
+        }
+        (AExpr::Ternary { .. }, [truthy, predicate, falsy]) => {
+            format!(in alloc; "if({predicate}, {truthy}, {falsy})")
+        }
+        (AExpr::Window { order_by, .. }, [function, keys @ ..]) => match (order_by, keys) {
+            (Some((_, options)), [by, keys @ ..]) => {
+                let keys = keys.join(alloc, ", ")?;
+                let order = sort_words(alloc, *options)?;
+                format!(in alloc; "over({function}, [{keys}], [{by}{order}])")
+            }
+            _ => format!(in alloc; "over({function}, [{}])", keys.join(alloc, ", ")?),
+        },
+        _ => call_words(alloc, item, inputs),
+    }
 }
 
-// The empty table with a column of the type.
-fn scan_of(alloc: Global, dtype: &DataType) -> Result<DslPlan, PlanError> {
-    let mut schema = Schema::new(alloc);
-    let _none = schema.put(PlSmallStr::new(alloc, "")?, dtype.try_clone(alloc)?)?;
-    Ok(DslPlan::DataFrameScan {
-        table: None,
-        schema,
-    })
+// A word, the inputs in parentheses, and what the item says beside them, as a query has it.
+fn call_words(alloc: Global, item: &AExpr, inputs: &[String]) -> Result<String, AllocError> {
+    let word = match item {
+        AExpr::Len => "len",
+        AExpr::Slice { .. } => "slice",
+        AExpr::Explode(_) => "explode",
+        AExpr::Gather { .. } => "gather",
+        AExpr::Filter { .. } => "filter",
+        AExpr::Sort { .. } => "sort",
+        AExpr::SortBy { .. } => "sort_by",
+        AExpr::Alias(_, _) => "alias",
+        AExpr::Agg(aggregate) => GroupByMethod::from(*aggregate).name(),
+        AExpr::Function { function, .. } => function.name(),
+        _ => "",
+    };
+    let inputs = inputs.join(alloc, ", ")?;
+    let options = option_words(alloc, item)?;
+    format!(in alloc; "{word}({inputs}{options})")
 }
 
-/// The schema in the first line of a report, behind the parenthesis that opens it.
-pub(crate) fn schema_words(report: &str) -> &str {
-    let line = match report.split_once("\n") {
-        Some((line, _)) => line,
-        None => report,
-    };
-    match line.split_once(" (") {
-        Some((_, columns)) => columns,
-        None => "",
+// What an item that is written as a call says beside its inputs.
+fn option_words(alloc: Global, item: &AExpr) -> Result<String, AllocError> {
+    match item {
+        AExpr::Gather { returns_scalar, .. } => format!(in alloc; ", {returns_scalar}"),
+        AExpr::Sort { options, .. } => sort_words(alloc, *options),
+        AExpr::SortBy { sort_options, .. } => {
+            let descending = sort_options.descending.items.as_slice();
+            let nulls_last = sort_options.nulls_last.items.as_slice();
+            format!(in alloc; ", {descending:?}, {nulls_last:?}")
+        }
+        AExpr::Alias(_, name)
+        | AExpr::Function {
+            function: FunctionExpr::FieldByName(name),
+            ..
+        } => format!(in alloc; ", {}", quoted(alloc, name.as_str())?),
+        _ => Ok(String::new(alloc)),
+    }
+}
+
+fn sort_words(alloc: Global, options: SortOptions) -> Result<String, AllocError> {
+    format!(in alloc; ", {}, {}", options.descending, options.nulls_last)
+}
+
+/// A text in quotes, as JSON has it.
+pub(crate) fn quoted(alloc: Global, text: &str) -> Result<String, AllocError> {
+    Value::try_from_str(alloc, text)?.to_string(alloc)
+}
+
+// A column's name: as it is where it is of letters, digits and underlines, with no digit in front; else in quotes.
+fn name_words(alloc: Global, name: &str) -> Result<String, AllocError> {
+    let is_word = name
+        .chars()
+        .all(|each| each.is_ascii_alphanumeric() || each == '_');
+    match name.chars().next() {
+        Some(first) if is_word && !first.is_ascii_digit() => String::from_str(alloc, name),
+        _ => format!(in alloc; "col({})", quoted(alloc, name)?),
+    }
+}
+
+// The literal's value. One of time has its type's word in front.
+fn literal_words(alloc: Global, value: &LiteralValue) -> Result<String, AllocError> {
+    match value {
+        LiteralValue::Null => String::from_str(alloc, "null"),
+        LiteralValue::Boolean(truth) => truth.to_string(alloc),
+        LiteralValue::String(text) => quoted(alloc, text.as_str()),
+        LiteralValue::Int(number) => number.to_string(alloc),
+        LiteralValue::Int8(number) => number.to_string(alloc),
+        LiteralValue::Int16(number) => number.to_string(alloc),
+        LiteralValue::Int32(number) => number.to_string(alloc),
+        LiteralValue::Int64(number) => number.to_string(alloc),
+        LiteralValue::UInt8(number) => number.to_string(alloc),
+        LiteralValue::UInt16(number) => number.to_string(alloc),
+        LiteralValue::UInt32(number) => number.to_string(alloc),
+        LiteralValue::UInt64(number) => number.to_string(alloc),
+        LiteralValue::Date(number) => format!(in alloc; "Date {number}"),
+        LiteralValue::Time(number) => format!(in alloc; "Time {number}"),
+        LiteralValue::DateTime(number, _) => format!(in alloc; "Datetime {number}"),
+        LiteralValue::Duration(number, _) => format!(in alloc; "Duration {number}"),
     }
 }

@@ -1,21 +1,15 @@
-use Rattle.plan_types.proofs.ResultLemmas.{passed_on}
 use Rattle.plan_dsl.specs.Registry.{registry}
+use Rattle.plan_json.specs.Bytes.{WritesQuery}
 use Rattle.plan_json.specs.Queries.{query_model}
-use Rattle.explain.specs.Verdicts.{RefusesText}
-use Rattle.explain.specs.declared.answers.Refusal.TheVariants.{Plan as BrokenPlan}
+use Rattle.explain.proofs.VerdictLemmas.{answer_refuses, answer_stands, read_one}
 use Rattle.explain.proofs.check.lower_text.Goals as goal
 
 pub returns-clause-ok : goal.returns-clause-ok
-returns-clause-ok c = record {
-  query = query_model c.in_ok-query.query;
-  writes = c.in_ok-query.ensures.ok;
-  well_formed = c.in_ok-plan.ensures.answers;
-  typed = c.in_ok-plan.ensures.typed;
-  sound = c.in_ok-plan.ensures.sound;
-  same_frame = c.in_ok-plan.ensures.same_frame;
-}
+returns-clause-ok c =
+    let writes = read_one (λ query. WritesQuery c.args.text.now (query_model query)) c.read_query.result c.in_ok-query.query c.in_ok-query.ensures.cases c.read_query.ensures.ok in
+    answer_stands (registry c.args.udfs.now) c.args.text.now (query_model c.in_ok-query.query) writes _ c.to_alp.result c.map_err-2.result c.map_err-2.ensures.cases c.to_alp.ensures.answers c.to_alp.ensures.typed c.to_alp.ensures.sound c.to_alp.ensures.same_frame
 
-pub returns-in_err-plan-clause-err : goal.returns-in_err-plan-clause-err
-returns-in_err-plan-clause-err c =
-    passed_on c.from_residual-in_err-plan.result (BrokenPlan c.in_err-plan.field-0.0) (RefusesText (registry c.args.udfs.now) c.args.text.now) c.from_residual-in_err-plan.ensures.1
-    (record { query = query_model c.in_ok-query.query; writes = c.in_ok-query.ensures.ok; refusal = c.in_err-plan.ensures.answers })
+pub returns-clause-err : goal.returns-clause-err
+returns-clause-err c =
+    let writes = read_one (λ query. WritesQuery c.args.text.now (query_model query)) c.read_query.result c.in_ok-query.query c.in_ok-query.ensures.cases c.read_query.ensures.ok in
+    answer_refuses (registry c.args.udfs.now) c.args.text.now (query_model c.in_ok-query.query) writes _ c.to_alp.result c.map_err-2.result c.map_err-2.ensures.cases c.to_alp.ensures.answers (λ error refusal is. cc)
