@@ -1,5 +1,5 @@
 //! Plans to nodes of an arena.
-ghost use Rattle.std.specs.Prelude.{◌≡◌, ◌⊎◌, ◌++◌, true, false, List, [], ◌∷◌, map, reverse, slice_get, Some, OnOk, IfOk, IfErr};
+ghost use Rattle.std.specs.Prelude.{◌≡◌, ◌⊎◌, ◌+◌, ◌++◌, true, false, List, [], ◌∷◌, length, map, reverse, slice_get, Some, OnOk, IfOk, IfErr};
 ghost use Rattle.plan_types.specs.Errors.{no_memory, IsMemoryOr};
 ghost use Rattle.plan_types.specs.Schemas.{columns, all_known};
 ghost use Rattle.plan_dsl.specs.Plans.{PlanOption, SourcePlan, options_in, plan_tree, scan_op};
@@ -150,6 +150,7 @@ fn lower_scan(
     ensures known { OnOk result (all_known (columns schema) ≡ true) }
     ensures ok { IfOk result (λ lowered. slice_get (map plan_layer lp_arena.new) lowered.node.0 ≡ Some (layer (scan_op table (columns schema)) [])) }
     ensures schema { IfOk result (λ lowered. recorded_at lp_arena.new lowered.schema_node.0 ≡ Some (columns schema)) }
+    ensures alone { OnOk result (length lp_arena.new ≡ length lp_arena.old + 1) }
     ensures err { IfErr result (IsMemoryOr ErrorKind.InvalidOperation (all_known (columns schema) ≡ false)) }
     ensures grows { Grows lp_arena.old lp_arena.new }
     ensures options { OnOk result (options_of lp_arena.new ≡ options_of lp_arena.old) }
