@@ -156,7 +156,7 @@ module _ (registry : Registry) (schema : Columns) where
 -- ---- casts that go
 
 cast_wide : (target : Ty) (options : CastOptions) (x : Expression) → IsWide x → (e : Expression) → cast_of target options x ≡ Some e → IsWide e
-cast_wide target options (node (LiteralOp from value) operands) wide e h = subst IsWide (sym (gives_literal from value target options e h).is) refl
+cast_wide target options (node (LiteralOp from value) no_more) wide e h = subst IsWide (sym (gives_literal from value target options e h).is) refl
 cast_wide target options (node (BinaryOp operator) operands) wide e h =
     subst IsWide (sym (some_where (is_logical operator && same_type Truth target) (node (BinaryOp operator) operands) e h).1) wide
 cast_wide target options (node op operands) wide e h = cc
