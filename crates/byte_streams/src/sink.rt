@@ -237,7 +237,7 @@ impl Sink for PlainSink {
     }
 }
 
-/// Bytes in memory that grow with what is written. A write fails only for want of memory, and then
+/// Bytes in memory that grow with what is written. A write fails only where it is out of memory, and then
 /// takes nothing.
 #[derive(Debug, Drop)]
 pub struct GrowingSink {

@@ -44,7 +44,7 @@ RefusesText registry text (BrokenPlan error) = WritesBroken registry text error
 
 -- ---- in words
 
--- a rule that is broken. Want of memory is none
+-- a rule that is broken. Out of memory is none
 abbrev pub rule_words : ErrorKind → Option (List ℕ)
 rule_words ColumnNotFound = Some (codes "a column is missing")
 rule_words Duplicate = Some (codes "a name stands twice")
@@ -64,7 +64,7 @@ place_words place = codes "the top" ++ flat_map step_words place
 abbrev pub plan_words : ErrorKind → List ℕ → Option (List ℕ)
 plan_words kind place = option_map (λ rule. rule ++ codes " at " ++ place_words place ++ codes "\n") (rule_words kind)
 
--- why a text is no query, with the path of the value at fault. Want of memory is no reason
+-- why a text is no query, with the path of the value at fault. Out of memory is no reason
 abbrev pub text_words : JsonError → Option (List ℕ)
 text_words json.NotJson = Some (codes "this is no JSON\n")
 text_words (json.Shape path) = Some (codes "a value is wrong at \"" ++ string_bytes path ++ codes "\"\n")

@@ -127,7 +127,7 @@ query_not_read_fault registry bytes done text answers e = subst IsOfInput e (que
 told_bytes : (input : Option (List ℕ)) (bytes all : List ℕ) → IfSome input (λ whole. bytes ≡ whole) → input ≡ Some all → bytes ≡ all
 told_bytes input bytes all whole e = subst (λ i. IfSome i (λ w. bytes ≡ w)) e whole
 
--- a reason that has a text isn't want of memory
+-- a reason that has a text isn't out of memory
 told_reason : (error : JsonError) (text : List ℕ) → bad_query_text error ≡ Some text → ¬ (error ≡ json.NoMemory)
 told_reason error text told e =
     let none : bad_query_text json.NoMemory ≡ Some text = ap bad_query_text (sym e) ∙ told in cc

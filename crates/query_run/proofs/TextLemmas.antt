@@ -10,7 +10,7 @@ use Rattle.query_run.specs.declared.status.Status.{Status}
 use Rattle.query_run.specs.declared.status.Status.TheVariants as status
 use Rattle.query_run.proofs.EndingLemmas.{Says, says, too_long_called, bad_query_called, refused_called, lowered_called, complete}
 
--- want of memory is an end without a fault and without a text
+-- out of memory is an end without a fault and without a text
 pub ended_without_memory : (registry : Registry) (query text : List ℕ) (done : Done) → done ≡ without_plan status.NoMemory → text ≡ [] → Ended registry right_words (Some query) (Some []) (Some text) done
 ended_without_memory registry query text done is empty =
     subst (λ d. Ended registry right_words (Some query) (Some []) (Some text) d) (sym is) (written (without_plan status.NoMemory) [] no_memory empty)

@@ -114,7 +114,7 @@ fn answer_bytes(alloc: Global, bytes: &[u8], udfs: &Udfs) -> Result<Answer, Allo
     }
 }
 
-// The text of bytes that are no query. Want of memory has none.
+// The text of bytes that are no query. Out of memory has none.
 fn bad_query(alloc: Global, error: &JsonError) -> Result<String, AllocError>
     ensures { IfOk result (λ text. bad_query_text error.now ≡ Some (string_bytes text)) }
 {
@@ -150,7 +150,7 @@ fn answer_plan(alloc: Global, plan: DslPlan, udfs: &Udfs) -> Result<Answer, Allo
     }
 }
 
-// Tells whether the error is want of memory.
+// Tells whether the error is out of memory.
 fn is_memory(error: &PlanError) -> bool
     ensures { IsTrue result ↔ (error.now.kind ≡ ErrorKind.NoMemory) }
 {

@@ -39,7 +39,7 @@ impl Told {
 }
 
 /// `run` with the word `lower` over the bytes of a query, with the whole text in memory. No read and no write fails: a
-/// text that memory doesn't hold ends as want of memory, without a text.
+/// text that memory doesn't hold ends out of memory, without a text.
 pub fn run_to_text(alloc: Global, query: &[u8], udfs: &Udfs) -> Told
     // What each status says.
     ensures ended { Ended (registry udfs.now) right_words (Some query.now) (Some []) (Some result.text.items) result.done }
