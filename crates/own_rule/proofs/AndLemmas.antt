@@ -33,7 +33,8 @@ use Rattle.plan_infer.specs.declared.type_table.Inferred.{Inferred}
 use Rattle.plan_infer.specs.KeptTypes.{AllKept, IsKept, IsRight, KeepsEntry, typed_of}
 use Rattle.plan_infer.proofs.TableLemmas.{kept_one, kept_typing, layer_held}
 use Rattle.plan_coerce.specs.Rules.{IsReplacement, IsSameOnFrames, said}
-use Rattle.own_rule.specs.PlainAnds.{HasSamePlain, are_truths, is_logical_and, is_of_truths, is_plain, plain_all, until_plain}
+use Rattle.own_rule.specs.PlainAnds.{HasSamePlain, are_truths, is_logical_and, is_of_truths, is_plain, plain_op, until_plain}
+use Rattle.own_rule.specs.OpChanges.{all_changed}
 use Rattle.own_rule.proofs.ChangedOpLemmas.{IsOpChanged, op_replaced}
 
 -- ---- both give the same of values of truth
@@ -208,7 +209,7 @@ module _ {registry : Registry} {schema : Columns} {old : List AExpr} {table : Ty
 
   relates : (ts : Trees Op) → DenoteAll (HoldsExpression old) inputs ts → HasSamePlain registry schema (node (BinaryOp LogicalAnd) ts) (node (BinaryOp And) ts)
   relates ts d =
-      ap (λ op. node op (plain_all registry schema ts)) (sym (ap (λ b. cond b (BinaryOp And) (BinaryOp LogicalAnd)) (truths_there ts d)))
+      ap (λ op. node op (all_changed plain_op registry schema ts)) (sym (ap (λ b. cond b (BinaryOp And) (BinaryOp LogicalAnd)) (truths_there ts d)))
 
   -- it is replaced once
   falls : (ts : Trees Op) → DenoteAll (HoldsExpression old) inputs ts → said (until_plain registry schema) registry schema (node (BinaryOp And) ts) < said (until_plain registry schema) registry schema (node (BinaryOp LogicalAnd) ts)

@@ -1,14 +1,15 @@
 -- Strict casts to the type that their operand has. They have no fault, so they needn't be strict.
-use Rattle.std.specs.Prelude.{◌≡◌, ℕ, Bool, true, false, not, List, [], ◌∷◌, Result, Ok, if◌then◌else◌}
+use Rattle.std.specs.Prelude.{ℕ, Bool, true, false, List, [], ◌∷◌, Result, Ok, if◌then◌else◌}
 use Rattle.plan_types.specs.Types.{same_type}
 use Rattle.plan_types.specs.Schemas.{Columns}
 use Rattle.plan_types.specs.declared.error.ErrorKind.{ErrorKind}
 use Rattle.plan_types.specs.declared.dtype.CastOptions.TheVariants.{Strict, NonStrict}
 use Rattle.plan_dsl.specs.Ops.{Op, CastOp, Expression}
 use Rattle.plan_dsl.specs.Registry.{Registry}
-use Rattle.plan_dsl.specs.Trees.{Trees, node, no_more, more}
-use Rattle.plan_dsl.specs.Typing.{Typed, typing_all}
+use Rattle.plan_dsl.specs.Trees.{Trees}
+use Rattle.plan_dsl.specs.Typing.{Typed}
 use Rattle.plan_coerce.specs.Rules.{Inputs}
+use Rattle.own_rule.specs.OpChanges.{HasSameChanged, all_changed, changed, stays_by, until_stays_by}
 
 abbrev pub is_strict_cast : Op → Bool
 is_strict_cast (CastOp target Strict) = true
@@ -26,23 +27,21 @@ relaxed_op (CastOp target Strict) (Ok (operand ∷ [])) =
 relaxed_op op typings = op
 
 -- an expression with none of them
-abbrev mutual
-  pub relaxed : Registry → Columns → Expression → Expression
-  relaxed registry schema (node op children) = node (relaxed_op op (typing_all registry schema children)) (relaxed_all registry schema children)
+abbrev pub relaxed : Registry → Columns → Expression → Expression
+relaxed = changed relaxed_op
 
-  pub relaxed_all : Registry → Columns → Trees Op → Trees Op
-  relaxed_all registry schema no_more = no_more
-  relaxed_all registry schema (more child rest) = more (relaxed registry schema child) (relaxed_all registry schema rest)
+abbrev pub relaxed_all : Registry → Columns → Trees Op → Trees Op
+relaxed_all = all_changed relaxed_op
 
 -- ---- what the rule says
 
 -- whether a node stays as it is, and how often it is replaced until it does
 abbrev pub is_relaxed : Registry → Columns → Op → Inputs → Bool
-is_relaxed registry schema op inputs = not (is_needless op inputs.typings)
+is_relaxed = stays_by is_needless
 
 abbrev pub until_relaxed : Registry → Columns → Op → Inputs → ℕ
-until_relaxed registry schema op inputs = if is_needless op inputs.typings then 1 else 0
+until_relaxed = until_stays_by is_needless
 
 -- both are one expression without such casts
 abbrev pub HasSameRelaxed : Registry → Columns → Expression → Expression → Type 0
-HasSameRelaxed registry schema before after = relaxed registry schema after ≡ relaxed registry schema before
+HasSameRelaxed = HasSameChanged relaxed_op

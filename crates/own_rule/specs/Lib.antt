@@ -1,4 +1,4 @@
 pub mod HarmlessCasts
-pub mod HarmlessCastLaws
+pub mod OpChanges
+pub mod OpChangeLaws
 pub mod PlainAnds
-pub mod PlainAndLaws

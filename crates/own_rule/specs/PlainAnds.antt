@@ -1,14 +1,14 @@
 -- LogicalAnd of two operands of truth values. Of such values And gives the same, so it may stand in its place.
-use Rattle.std.specs.Prelude.{◌≡◌, ℕ, Bool, true, false, not, ◌&&◌, List, [], ◌∷◌, Result, Ok, if◌then◌else◌}
+use Rattle.std.specs.Prelude.{ℕ, Bool, true, false, ◌&&◌, List, [], ◌∷◌, Result, Ok, if◌then◌else◌}
 use Rattle.plan_types.specs.Types.{is_truth}
 use Rattle.plan_types.specs.Schemas.{Columns}
 use Rattle.plan_types.specs.declared.error.ErrorKind.{ErrorKind}
 use Rattle.plan_dsl.specs.declared.operator.Operator.TheVariants.{And, LogicalAnd}
 use Rattle.plan_dsl.specs.Ops.{Op, BinaryOp, Expression}
 use Rattle.plan_dsl.specs.Registry.{Registry}
-use Rattle.plan_dsl.specs.Trees.{Trees, node, no_more, more}
-use Rattle.plan_dsl.specs.Typing.{Typed, typing_all}
+use Rattle.plan_dsl.specs.Typing.{Typed}
 use Rattle.plan_coerce.specs.Rules.{Inputs}
+use Rattle.own_rule.specs.OpChanges.{HasSameChanged, changed, stays_by, until_stays_by}
 
 abbrev pub is_logical_and : Op → Bool
 is_logical_and (BinaryOp LogicalAnd) = true
@@ -27,23 +27,18 @@ abbrev pub plain_op : Op → Result (List Typed) ErrorKind → Op
 plain_op op typings = if is_of_truths op typings then BinaryOp And else op
 
 -- an expression with none of them
-abbrev mutual
-  pub plain : Registry → Columns → Expression → Expression
-  plain registry schema (node op children) = node (plain_op op (typing_all registry schema children)) (plain_all registry schema children)
-
-  pub plain_all : Registry → Columns → Trees Op → Trees Op
-  plain_all registry schema no_more = no_more
-  plain_all registry schema (more child rest) = more (plain registry schema child) (plain_all registry schema rest)
+abbrev pub plain : Registry → Columns → Expression → Expression
+plain = changed plain_op
 
 -- ---- what the rule says
 
 -- whether a node stays as it is, and how often it is replaced until it does
 abbrev pub is_plain : Registry → Columns → Op → Inputs → Bool
-is_plain registry schema op inputs = not (is_of_truths op inputs.typings)
+is_plain = stays_by is_of_truths
 
 abbrev pub until_plain : Registry → Columns → Op → Inputs → ℕ
-until_plain registry schema op inputs = if is_of_truths op inputs.typings then 1 else 0
+until_plain = until_stays_by is_of_truths
 
 -- both are one expression without such nodes
 abbrev pub HasSamePlain : Registry → Columns → Expression → Expression → Type 0
-HasSamePlain registry schema before after = plain registry schema after ≡ plain registry schema before
+HasSamePlain = HasSameChanged plain_op

@@ -6,8 +6,8 @@ ghost use Rattle.plan_arena.specs.Items.{expression_layer};
 ghost use Rattle.plan_arena.specs.Layers.{layer, op_of};
 ghost use Rattle.plan_coerce.specs.RuleLaws.{said_steady};
 ghost use Rattle.plan_coerce.specs.Rules.{said};
-ghost use Rattle.own_rule.specs.HarmlessCasts.{HasSameRelaxed, is_relaxed, is_strict_cast, until_relaxed};
-ghost use Rattle.own_rule.specs.HarmlessCastLaws.{relaxed_congruent, relaxed_transitive, until_relaxed_bounded};
+ghost use Rattle.own_rule.specs.HarmlessCasts.{HasSameRelaxed, is_needless, is_relaxed, is_strict_cast, relaxed_op, until_relaxed};
+ghost use Rattle.own_rule.specs.OpChangeLaws.{changed_congruent, changed_once, changed_transitive};
 
 use plan_arena::aexpr::AExpr;
 use plan_arena::arena::{Arena, Node};
@@ -54,13 +54,13 @@ impl OptimizationRule for HarmlessCastRule {
 
     ghost settled_plan = { λ rule registry schema kind. true };
 
-    ghost congruent = { λ rule. relaxed_congruent };
+    ghost congruent = { λ rule. changed_congruent relaxed_op };
 
-    ghost transitive = { λ rule. relaxed_transitive };
+    ghost transitive = { λ rule. changed_transitive relaxed_op };
 
     ghost steady = { λ rule registry schema. said_steady (is_relaxed registry schema) (HasSameRelaxed registry schema) registry schema };
 
-    ghost bounded = { λ rule. until_relaxed_bounded };
+    ghost bounded = { λ rule. changed_once is_needless };
 
     fn optimize_plan<M: Ledger>(
         &self,

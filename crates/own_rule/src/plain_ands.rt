@@ -7,8 +7,8 @@ ghost use Rattle.plan_arena.specs.Items.{expression_layer};
 ghost use Rattle.plan_arena.specs.Layers.{layer, op_of};
 ghost use Rattle.plan_coerce.specs.RuleLaws.{said_steady};
 ghost use Rattle.plan_coerce.specs.Rules.{said};
-ghost use Rattle.own_rule.specs.PlainAnds.{HasSamePlain, is_logical_and, is_plain, until_plain};
-ghost use Rattle.own_rule.specs.PlainAndLaws.{plain_congruent, plain_transitive, until_plain_bounded};
+ghost use Rattle.own_rule.specs.PlainAnds.{HasSamePlain, is_logical_and, is_of_truths, is_plain, plain_op, until_plain};
+ghost use Rattle.own_rule.specs.OpChangeLaws.{changed_congruent, changed_once, changed_transitive};
 
 use plan_arena::aexpr::AExpr;
 use plan_arena::arena::{Arena, Node};
@@ -43,13 +43,13 @@ impl OptimizationRule for PlainAndRule {
 
     ghost settled_plan = { λ rule registry schema kind. true };
 
-    ghost congruent = { λ rule. plain_congruent };
+    ghost congruent = { λ rule. changed_congruent plain_op };
 
-    ghost transitive = { λ rule. plain_transitive };
+    ghost transitive = { λ rule. changed_transitive plain_op };
 
     ghost steady = { λ rule registry schema. said_steady (is_plain registry schema) (HasSamePlain registry schema) registry schema };
 
-    ghost bounded = { λ rule. until_plain_bounded };
+    ghost bounded = { λ rule. changed_once is_of_truths };
 
     fn optimize_plan<M: Ledger>(
         &self,
