@@ -13,3 +13,4 @@ pub mod Names
 pub mod NoFaults
 pub mod OnLiterals
 pub mod TextTests
+pub mod WordLemmas

@@ -2,9 +2,13 @@
 ghost use Rattle.std.specs.Prelude.{◌≡◌, ◌⊎◌, ℕ, List, Some, None, true, false};
 ghost use Rattle.serde_json.specs.Data.{Data, Num, number};
 ghost use Rattle.serde_json.specs.Find.{as_i64, as_u64};
+ghost use Rattle.plan_dsl.specs.Words.{function_name, method_name};
+ghost use Rattle.plan_dsl.specs.declared.aggregate.GroupByMethod.{GroupByMethod};
+ghost use Rattle.plan_dsl.specs.declared.function_expr.FunctionExpr.{FunctionExpr};
 ghost use Rattle.plan_json.specs.Bytes.{IsRefusalOf, IsTextOf, WritesQuery};
 ghost use Rattle.plan_json.specs.Errors.{IsErrorOf};
 ghost use Rattle.plan_json.specs.Faults.{BadFloat, BadShape, Form, a_query, own_fault};
+ghost use Rattle.plan_json.specs.Leaves.{function_named, method_named};
 ghost use Rattle.plan_json.specs.Looking.{is_float};
 ghost use Rattle.plan_json.specs.Queries.{QueryModel};
 ghost use Rattle.plan_json.specs.declared.error.JsonError.{JsonError};
@@ -31,4 +35,10 @@ pub fn float_laws()
     ensures neither { (n : Num) → as_i64 n ≡ None → as_u64 n ≡ None → is_float (number n) ≡ true }
     ensures float { (form : Form) (d : Data) → own_fault form d ≡ Some BadFloat → is_float d ≡ true }
     ensures shape { (form : Form) (d : Data) → own_fault form d ≡ Some BadShape → is_float d ≡ false }
+{}
+
+/// A word from which a method or a function is read is the one that it is called by.
+pub fn word_laws()
+    ensures methods { (word : List ℕ) (method : GroupByMethod) → method_named word ≡ Some method → method_name method ≡ word }
+    ensures functions { (word : List ℕ) (function : FunctionExpr) → function_named word ≡ Some function → function_name function ≡ word }
 {}
