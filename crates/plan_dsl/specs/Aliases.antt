@@ -1,9 +1,9 @@
--- Expressions as plans' nodes have them: without aliases, and with horizontals written out.
+-- Expressions as plans have them: without aliases, and with horizontals that stay or are written out.
 -- An alias gives its operand a name, and nothing else. A plan takes an expression's name from its aliases, and the
--- expression itself without them: its core. A function's operands have none in either, and it records their names. A
--- horizontal over few operands is written out: over none it is a literal, over one a cast, and over more a chain of an
--- operator from the left.
-use Rattle.std.specs.Prelude.{ℕ, nat_lt, Bool, true, false, not, ◌&&◌, List, [], IsTrue, if◌then◌else◌}
+-- expression itself without them: its core. A function's operands have none in either, and it records their names. In a
+-- lowered plan a horizontal over few operands is written out: over none it is a literal, over one a cast, and over more a
+-- chain of an operator from the left. So the core is spelled.
+use Rattle.std.specs.Prelude.{ℕ, nat_lt, Bool, true, false, ◌&&◌, List, [], IsTrue, if◌then◌else◌}
 use Rattle.plan_types.specs.Types.{Truth}
 use Rattle.plan_types.specs.Values.{TruthValue}
 use Rattle.plan_types.specs.declared.dtype.CastOptions.TheVariants.{NonStrict}
@@ -39,15 +39,6 @@ abbrev pub is_written_out : Op → ℕ → Bool
 is_written_out (FunctionOp function []) count = is_horizontal function && nat_lt count least_horizontal
 is_written_out op count = false
 
-abbrev mutual
-  -- whether no horizontal in an expression is
-  pub writes_none : Expression → Bool
-  writes_none (node op children) = not (is_written_out op (tree_count children)) && all_write_none children
-
-  pub all_write_none : Trees Op → Bool
-  all_write_none no_more = true
-  all_write_none (more child rest) = writes_none child && all_write_none rest
-
 -- ---- aliases
 
 -- a node, or what stands under it where it is an alias and those aren't kept
@@ -60,34 +51,34 @@ abbrev pub with_names : Op → List Label → Op
 with_names (FunctionOp function []) labels = FunctionOp function labels
 with_names op labels = op
 
--- whether aliases may be kept below a node over so many children: a function that stays has none there
-abbrev pub lets_aliases : Op → ℕ → Bool
-lets_aliases (FunctionOp function recorded) count = is_written_out (FunctionOp function recorded) count
-lets_aliases op count = true
+-- whether aliases may be kept below a node, that is written out or not: a function that stays has none there
+abbrev pub lets_aliases : Bool → Op → Bool
+lets_aliases out (FunctionOp function recorded) = out
+lets_aliases out op = true
 
--- a node over children as they are in a plan
+-- a node over children as they are in a plan, written out or not
 abbrev pub put_together : Bool → Bool → Op → List Label → Trees Op → Expression
 put_together keep true op labels children = written_out op children
 put_together keep false op labels children = prune_node keep (with_names op labels) children
 
 abbrev mutual
-  -- an expression with its aliases, or without, as a plan has it
-  pub pruned : Bool → Expression → Expression
-  pruned keep (node op children) =
-      put_together keep (is_written_out op (tree_count children)) op (fold_all op_label children) (all_pruned (keep && lets_aliases op (tree_count children)) children)
+  -- an expression with its aliases, or without, and with horizontals over few operands written out, or as nodes
+  pub pruned : Bool → Bool → Expression → Expression
+  pruned keep write (node op children) =
+      let out = write && is_written_out op (tree_count children) in
+      put_together keep out op (fold_all op_label children) (all_pruned (keep && lets_aliases out op) write children)
 
-  pub all_pruned : Bool → Trees Op → Trees Op
-  all_pruned keep no_more = no_more
-  all_pruned keep (more child rest) = more (pruned keep child) (all_pruned keep rest)
-
--- what stands under a node that is not written out, with its aliases or without
-abbrev pub inputs_pruned : Bool → Expression → Expression
-inputs_pruned keep (node op children) =
-    node (with_names op (fold_all op_label children)) (all_pruned (keep && lets_aliases op (tree_count children)) children)
+  pub all_pruned : Bool → Bool → Trees Op → Trees Op
+  all_pruned keep write no_more = no_more
+  all_pruned keep write (more child rest) = more (pruned keep write child) (all_pruned keep write rest)
 
 -- an expression without its aliases
 abbrev pub core : Expression → Expression
-core tree = pruned false tree
+core tree = pruned false false tree
+
+-- and with its horizontals written out
+abbrev pub spelled : Expression → Expression
+spelled tree = pruned false true tree
 
 abbrev pub is_core_op : Op → Bool
 is_core_op (AliasOp name) = false

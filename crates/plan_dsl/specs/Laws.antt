@@ -1,5 +1,5 @@
 -- Laws of the definitions, for all expressions and plans.
-use Rattle.std.specs.Prelude.{◌≡◌, ◌⊎◌, ℕ, ℤ, List, [], ◌∷◌, ◌++◌, length, map, Option, Some, None, is_some, option_map, Ok, Err, IsTrue, Bool, true, false}
+use Rattle.std.specs.Prelude.{◌≡◌, ℕ, ℤ, List, [], ◌∷◌, ◌++◌, length, map, Option, Some, None, is_some, option_map, Ok, Err, IsTrue, Bool, true, false}
 use Rattle.std.specs.Bool.{Decides}
 use Rattle.std.specs.List.{Contains, list_all}
 use Rattle.plan_types.specs.Types.{Ty, Untyped, is_known}
@@ -11,7 +11,7 @@ use Rattle.plan_types.specs.declared.error.ErrorKind.{ErrorKind}
 use Rattle.plan_types.specs.declared.error.ErrorKind.TheVariants.{InvalidOperation}
 use Rattle.plan_dsl.specs.Registry.{Registry}
 use Rattle.plan_dsl.specs.Ops.{Op, LiteralOp, BinaryOp, Expression}
-use Rattle.plan_dsl.specs.Aliases.{IsCore, core, renamed, writes_none}
+use Rattle.plan_dsl.specs.Aliases.{IsCore, core, renamed, spelled}
 use Rattle.plan_dsl.specs.Trees.{Trees, node, no_more, more, tree_at}
 use Rattle.plan_dsl.specs.Plans.{Named, PlanKind, RefusedKind, PlanOp, Plan, SourcePlan, scans_in, drop_op}
 use Rattle.plan_dsl.specs.Sources.{Source, written, unwritten, is_plain, ColumnsOp, IndexColumnOp, ExcludeOp, same_source}
@@ -25,6 +25,7 @@ use Rattle.plan_dsl.specs.declared.operator.Operator.{Operator}
 use Rattle.plan_dsl.specs.Operators.{operator_value, swapped}
 use Rattle.plan_dsl.specs.OperatorTypes.{pair_to, operator_types}
 use Rattle.plan_dsl.specs.Kernels.{operator_values}
+use Rattle.plan_dsl.specs.Literals.{settled}
 use Rattle.plan_dsl.specs.Meaning.{meaning}
 use Rattle.plan_dsl.specs.Strictness.{IsStrict, IsSame, IsStrictOver, as_operands}
 use Rattle.plan_dsl.specs.StrictRun.{strict_run}
@@ -74,15 +75,28 @@ MeaningHasType = (registry : Registry) (frame : Frame) (tree : Expression) (type
 abbrev pub OnlyNumbersAreUntyped : Type 0
 OnlyNumbersAreUntyped = (registry : Registry) (schema : Columns) (number : ℤ) (tree : Expression) (typed : Typed) → typing registry schema tree ≡ Ok typed → typed.type ≡ Untyped number → tree ≡ renamed tree (node (LiteralOp (Untyped number) (IntValue number)) no_more)
 
--- what a typed expression says without its aliases: it is typed so, and means the same on the rows of a frame, and on any
--- rows where no horizontal in it is written out
+-- what a typed expression says without its aliases: it is typed so, and means the same on any rows
 pub record CoreSaysSame (registry : Registry) (schema : Columns) (tree : Expression) (typed : Typed) : Type 0 where
   pub none : IsCore (core tree)
   pub typing : typing registry schema (core tree) ≡ Ok typed
-  pub meaning : (rows : List Row) → IsFrame (record { schema = schema; rows = rows }) ⊎ (writes_none tree ≡ true) → meaning registry (record { schema = schema; rows = rows }) (core tree) ≡ meaning registry (record { schema = schema; rows = rows }) tree
+  pub meaning : (rows : List Row) → meaning registry (record { schema = schema; rows = rows }) (core tree) ≡ meaning registry (record { schema = schema; rows = rows }) tree
 
 abbrev pub CoresSaySame : Type 0
 CoresSaySame = (registry : Registry) (schema : Columns) (tree : Expression) (typed : Typed) → typing registry schema tree ≡ Ok typed → CoreSaysSame registry schema tree typed
+
+-- What an expression says whose horizontals are written out, beside its core: one is typed just where the other is, and then
+-- has no aliases, and means the same on each frame. A number at the top of either gets a type as it does at that of the
+-- whole.
+pub record SpelledSaysSame (registry : Registry) (schema : Columns) (tree : Expression) : Type 0 where
+  pub typed : (typed : Typed) → typing registry schema (core tree) ≡ Ok typed → typing registry schema (spelled tree) ≡ Ok typed
+  pub typed_alone : (typed : Typed) → typing registry schema (spelled tree) ≡ Ok typed → typing registry schema (core tree) ≡ Ok typed
+  pub none : (typed : Typed) → typing registry schema (core tree) ≡ Ok typed → IsCore (spelled tree)
+  pub meaning : (frame : Frame) (typed : Typed) → IsFrame frame → frame.schema ≡ schema → typing registry schema (core tree) ≡ Ok typed → meaning registry frame (spelled tree) ≡ meaning registry frame (core tree)
+  pub settled_core : settled (core tree) ≡ core (settled tree)
+  pub settled_spelled : settled (spelled tree) ≡ spelled (settled tree)
+
+abbrev pub SpelledSaySame : Type 0
+SpelledSaySame = (registry : Registry) (schema : Columns) (tree : Expression) → SpelledSaysSame registry schema tree
 
 -- a typed expression breaks no rule
 abbrev pub TypedBreaksNothing : Type 0

@@ -9,7 +9,7 @@ ghost use Rattle.plan_dsl.specs.Evaluations.{Evaluated};
 ghost use Rattle.plan_dsl.specs.FunctionValues.{is_missing};
 ghost use Rattle.plan_dsl.specs.HorizontalLaws.{HorizontalsAreTheirChains};
 ghost use Rattle.plan_dsl.specs.ListLaws.{AggregatesAreOfAll, CastsAreOfEach, ColumnsAreForRows, ColumnsExplodeApart, FiltersKeepTrue, FramesTakeColumns, GatherGivesEach, GroupsGiveEach, IndicesArePlaces, MembersAreFound, OneIsLess, OperandsGiveEach, OperatorsGiveEach, PartsAreFound, RowsGiveEach, RowsHaveColumns, SeriesAreOfEach, ShiftsMoveValues, SlicesAreBetween};
-ghost use Rattle.plan_dsl.specs.Laws.{TakenTypesStay, TakenOperandsSaySame, SwappedOperandsSaySame, StrictRunIsMeaning, MeaningHasType, OnlyNumbersAreUntyped, CoresSaySame};
+ghost use Rattle.plan_dsl.specs.Laws.{TakenTypesStay, TakenOperandsSaySame, SwappedOperandsSaySame, StrictRunIsMeaning, MeaningHasType, OnlyNumbersAreUntyped, CoresSaySame, SpelledSaySame};
 ghost use Rattle.plan_dsl.specs.SortLaws.{ValuesHaveAnOrder, KeysHaveAnOrder, ValuesAreSorted, RowsAreSorted, SortsByKeysAreSorted, SortedByKeysAreTheSame};
 ghost use Rattle.plan_dsl.specs.WindowLaws.{WindowsHaveAValueForEachRow, RowsHaveWhatTheirGroupIsGiven, GroupsArePutInOrder, WindowsOfColumnsAreTheColumns};
 ghost use Rattle.plan_dsl.specs.Windows.{Spot};
@@ -20,7 +20,8 @@ ghost use Rattle.plan_dsl.specs.Windows.{Spot};
 /// What a typed expression means has its type on every frame, and is never stuck.
 /// Only a number that is written without a type has no type of columns.
 /// A horizontal over any number of operands has the name, type and meaning of the chain for which it is written out.
-/// Without its aliases a typed expression has the same type, and means the same, with its horizontals written out.
+/// Without its aliases a typed expression has the same type, and means the same on any rows. With its horizontals written out
+/// it has a type just where it has one without its aliases alone, that type, and means the same on frames.
 pub fn expression_laws()
     ensures taken_stay { TakenTypesStay }
     ensures taken_operands { TakenOperandsSaySame }
@@ -30,6 +31,7 @@ pub fn expression_laws()
     ensures untyped { OnlyNumbersAreUntyped }
     ensures horizontals { HorizontalsAreTheirChains }
     ensures cores { CoresSaySame }
+    ensures spelled { SpelledSaySame }
 {}
 
 /// Values of a type are in an order, and so are keys of types. A sorted column has the values of its input, in order, and
