@@ -34,10 +34,11 @@ written_out (FunctionOp AllHorizontal []) children = chained LogicalAnd true chi
 written_out (FunctionOp AnyHorizontal []) children = chained LogicalOr false children
 written_out op children = node op children
 
--- whether a node over so many children is written out: none is that has recorded names, as it stands in a plan
-abbrev pub is_written_out : Op → ℕ → Bool
-is_written_out (FunctionOp function []) count = is_horizontal function && nat_lt count least_horizontal
-is_written_out op count = false
+-- whether a node over so many children is written out, where horizontals are: none is that has recorded names, as it stands
+-- in a plan
+abbrev pub is_written_out : Bool → Op → ℕ → Bool
+is_written_out write (FunctionOp function []) count = write && (is_horizontal function && nat_lt count least_horizontal)
+is_written_out write op count = false
 
 -- ---- aliases
 
@@ -51,10 +52,10 @@ abbrev pub with_names : Op → List Label → Op
 with_names (FunctionOp function []) labels = FunctionOp function labels
 with_names op labels = op
 
--- whether aliases may be kept below a node, that is written out or not: a function that stays has none there
-abbrev pub lets_aliases : Bool → Op → Bool
-lets_aliases out (FunctionOp function recorded) = out
-lets_aliases out op = true
+-- whether aliases may be kept below a node over so many children: a function that stays has none there
+abbrev pub lets_aliases : Bool → Op → ℕ → Bool
+lets_aliases write (FunctionOp function recorded) count = is_written_out write (FunctionOp function recorded) count
+lets_aliases write op count = true
 
 -- a node over children as they are in a plan, written out or not
 abbrev pub put_together : Bool → Bool → Op → List Label → Trees Op → Expression
@@ -65,8 +66,8 @@ abbrev mutual
   -- an expression with its aliases, or without, and with horizontals over few operands written out, or as nodes
   pub pruned : Bool → Bool → Expression → Expression
   pruned keep write (node op children) =
-      let out = write && is_written_out op (tree_count children) in
-      put_together keep out op (fold_all op_label children) (all_pruned (keep && lets_aliases out op) write children)
+      put_together keep (is_written_out write op (tree_count children)) op (fold_all op_label children)
+      (all_pruned (keep && lets_aliases write op (tree_count children)) write children)
 
   pub all_pruned : Bool → Bool → Trees Op → Trees Op
   all_pruned keep write no_more = no_more
