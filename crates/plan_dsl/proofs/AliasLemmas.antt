@@ -1,5 +1,6 @@
--- Aliases: a node of one is typed as its operand is, and means the same. Expressions without them: names, and numbers at the top.
-use Rattle.std.proofs.Common.{◌≡◌, ◌⊎◌, inl, inr, ℕ, nat_lt, Bool, true, false, subst, List, [], ◌∷◌, Ok, refl, sym, ap, ◌∙◌}
+-- Aliases: a node of one is typed as its operand is, and means the same. Expressions without them, and with horizontals that
+-- stay or are written out: names, and numbers at the top.
+use Rattle.std.proofs.Common.{◌≡◌, ◌⊎◌, inl, inr, ◌&&◌, ℕ, nat_lt, Bool, true, false, subst, List, [], ◌∷◌, Ok, refl, sym, ap, ◌∙◌}
 use Rattle.std.proofs.lemmas.Bool.{and_parts}
 use Rattle.plan_types.specs.Types.{Ty}
 use Rattle.plan_types.specs.Schemas.{Name, Columns}
@@ -14,7 +15,7 @@ use Rattle.plan_dsl.specs.declared.operator.Operator.{Operator}
 use Rattle.plan_dsl.specs.declared.operator.Operator.TheVariants.{LogicalAnd, LogicalOr}
 use Rattle.plan_dsl.specs.Functions.{is_horizontal}
 use Rattle.plan_dsl.specs.Signatures.{least_horizontal}
-use Rattle.plan_dsl.specs.Aliases.{all_pruned, chain, chained, core, is_written_out, pruned, put_together}
+use Rattle.plan_dsl.specs.Aliases.{all_pruned, chain, chained, core, is_written_out, pruned, put_together, spelled}
 use Rattle.plan_dsl.specs.Names.{FromAlias, Label, first_label, function_label, label_of, op_label}
 use Rattle.plan_dsl.specs.Ops.{Op, ColumnOp, LiteralOp, BinaryOp, LenOp, AliasOp, FunctionOp, Expression}
 use Rattle.plan_dsl.specs.Kernels.{kernel}
@@ -50,15 +51,6 @@ pub chain_label : (operator : Operator) (tree : Expression) (trees : Trees Op) �
 chain_label operator tree no_more = refl
 chain_label operator tree (more next rest) = chain_label operator (node (BinaryOp operator) (more tree (more next no_more))) rest
 
-chain_core : (operator : Operator) (tree : Expression) (trees : Trees Op) → core (chain operator tree trees) ≡ chain operator (core tree) (all_pruned false trees)
-chain_core operator tree no_more = refl
-chain_core operator tree (more next rest) = chain_core operator (node (BinaryOp operator) (more tree (more next no_more))) rest
-
-chained_core : (operator : Operator) (nothing : Bool) (trees : Trees Op) → core (chained operator nothing trees) ≡ chained operator nothing (all_pruned false trees)
-chained_core operator nothing no_more = refl
-chained_core operator nothing (more tree no_more) = refl
-chained_core operator nothing (more tree (more next rest)) = chain_core operator tree (more next rest)
-
 settled_chain : (operator other : Operator) (children trees : Trees Op) → settled (chain operator (node (BinaryOp other) children) trees) ≡ chain operator (node (BinaryOp other) children) trees
 settled_chain operator other children no_more = refl
 settled_chain operator other children (more next rest) = settled_chain operator operator (more (node (BinaryOp other) children) (more next no_more)) rest
@@ -79,98 +71,83 @@ settled_function AnyHorizontal true labels children h = sym (settled_chained Log
 settled_function _ true labels children h = absurd (not_both (h refl))
 settled_function _ false labels children h = refl
 
-pub horizontal_alone : (function : FunctionExpr) (count : ℕ) → is_written_out (FunctionOp function []) count ≡ true → is_horizontal function ≡ true
-horizontal_alone function count h = (and_parts (is_horizontal function) (nat_lt count least_horizontal) h).0
+pub horizontal_alone : (write : Bool) (function : FunctionExpr) (count : ℕ) → is_written_out write (FunctionOp function []) count ≡ true → is_horizontal function ≡ true
+horizontal_alone write function count h = (and_parts (is_horizontal function) (nat_lt count least_horizontal) (and_parts write (is_horizontal function && nat_lt count least_horizontal) h).1).0
 
 -- a number at the top gets its type under aliases as it does without them
+pub pruned_settled : (write : Bool) (tree : Expression) → pruned false write (settled tree) ≡ settled (pruned false write tree)
+pruned_settled write (node (AliasOp name) (more tree no_more)) = pruned_settled write tree
+pruned_settled write (node (FunctionOp function []) children) =
+    settled_function function (is_written_out write (FunctionOp function []) (tree_count children)) (fold_all op_label children) (all_pruned false write children) (horizontal_alone write function (tree_count children))
+pruned_settled write (node (FunctionOp function (label ∷ recorded)) children) = refl
+pruned_settled write (node op children) = refl
+
 pub core_settled : (tree : Expression) → core (settled tree) ≡ settled (core tree)
-core_settled (node (AliasOp name) (more tree no_more)) = core_settled tree
-core_settled (node (FunctionOp function []) children) =
-    settled_function function (is_written_out (FunctionOp function []) (tree_count children)) (fold_all op_label children) (all_pruned false children) (horizontal_alone function (tree_count children))
-core_settled (node (FunctionOp function (label ∷ recorded)) children) = refl
-core_settled (node op children) = refl
+core_settled tree = pruned_settled false tree
+
+pub spelled_settled : (tree : Expression) → spelled (settled tree) ≡ settled (spelled tree)
+spelled_settled tree = pruned_settled true tree
 
 -- ---- names
 
 -- a function under its own name, whether it is written out or not
-function_kept : (function : FunctionExpr) (out : Bool) (children : Trees Op) → (out ≡ true → is_horizontal function ≡ true) → fold_all op_label (all_pruned true children) ≡ fold_all op_label children → label_of (put_together true out (FunctionOp function []) (fold_all op_label children) (all_pruned out children)) ≡ function_label function (fold_all op_label children)
-function_kept AllHorizontal true no_more h names = refl
-function_kept AllHorizontal true (more tree no_more) h names = ap first_label names
-function_kept AllHorizontal true (more tree (more next rest)) h names = chain_label LogicalAnd (pruned true tree) (all_pruned true (more next rest)) ∙ ap first_label names
-function_kept AnyHorizontal true no_more h names = refl
-function_kept AnyHorizontal true (more tree no_more) h names = ap first_label names
-function_kept AnyHorizontal true (more tree (more next rest)) h names = chain_label LogicalOr (pruned true tree) (all_pruned true (more next rest)) ∙ ap first_label names
-function_kept _ true children h names = absurd (not_both (h refl))
-function_kept _ false no_more h names = refl
-function_kept _ false (more tree trees) h names = refl
+function_kept : (write : Bool) (function : FunctionExpr) (out : Bool) (children : Trees Op) → (out ≡ true → is_horizontal function ≡ true) → fold_all op_label (all_pruned true write children) ≡ fold_all op_label children → label_of (put_together true out (FunctionOp function []) (fold_all op_label children) (all_pruned out write children)) ≡ function_label function (fold_all op_label children)
+function_kept write AllHorizontal true no_more h names = refl
+function_kept write AllHorizontal true (more tree no_more) h names = ap first_label names
+function_kept write AllHorizontal true (more tree (more next rest)) h names = chain_label LogicalAnd (pruned true write tree) (all_pruned true write (more next rest)) ∙ ap first_label names
+function_kept write AnyHorizontal true no_more h names = refl
+function_kept write AnyHorizontal true (more tree no_more) h names = ap first_label names
+function_kept write AnyHorizontal true (more tree (more next rest)) h names = chain_label LogicalOr (pruned true write tree) (all_pruned true write (more next rest)) ∙ ap first_label names
+function_kept write _ true children h names = absurd (not_both (h refl))
+function_kept write _ false no_more h names = refl
+function_kept write _ false (more tree trees) h names = refl
 
 -- with its aliases an expression has its name
 mutual
-  pub kept_label : (tree : Expression) → label_of (pruned true tree) ≡ label_of tree
-  kept_label (node (AliasOp name) (more tree no_more)) = refl
-  kept_label (node (FunctionOp function []) children) =
-      function_kept function (is_written_out (FunctionOp function []) (tree_count children)) children (horizontal_alone function (tree_count children)) (kept_labels children)
-  kept_label (node (FunctionOp function (label ∷ recorded)) children) = refl
-  kept_label (node op children) = ap (op_label op) (kept_labels children)
+  pub kept_label : (write : Bool) (tree : Expression) → label_of (pruned true write tree) ≡ label_of tree
+  kept_label write (node (AliasOp name) (more tree no_more)) = refl
+  kept_label write (node (FunctionOp function []) children) =
+      function_kept write function (is_written_out write (FunctionOp function []) (tree_count children)) children (horizontal_alone write function (tree_count children)) (kept_labels write children)
+  kept_label write (node (FunctionOp function (label ∷ recorded)) children) = refl
+  kept_label write (node op children) = ap (op_label op) (kept_labels write children)
 
-  kept_labels : (trees : Trees Op) → fold_all op_label (all_pruned true trees) ≡ fold_all op_label trees
-  kept_labels no_more = refl
-  kept_labels (more tree trees) = λ i. kept_label tree i ∷ kept_labels trees i
-
--- ---- once is enough
-
-function_core : (function : FunctionExpr) (out : Bool) (tree : Expression) (trees : Trees Op) (labels : List Label) (label : Label) → (out ≡ true → is_horizontal function ≡ true) → all_pruned false (more (core tree) (all_pruned false trees)) ≡ more (core tree) (all_pruned false trees)
-    → core (put_together false out (FunctionOp function []) (label ∷ labels) (more (core tree) (all_pruned false trees))) ≡ put_together false out (FunctionOp function []) (label ∷ labels) (more (core tree) (all_pruned false trees))
-function_core AllHorizontal true tree trees labels label h again = chained_core LogicalAnd true (more (core tree) (all_pruned false trees)) ∙ ap (chained LogicalAnd true) again
-function_core AnyHorizontal true tree trees labels label h again = chained_core LogicalOr false (more (core tree) (all_pruned false trees)) ∙ ap (chained LogicalOr false) again
-function_core _ true tree trees labels label h again = absurd (not_both (h refl))
-function_core function false tree trees labels label h again = ap (node (FunctionOp function (label ∷ labels))) again
-
-nothing_core : (function : FunctionExpr) → core (core (node (FunctionOp function []) no_more)) ≡ core (node (FunctionOp function []) no_more)
-nothing_core AllHorizontal = refl
-nothing_core AnyHorizontal = refl
-nothing_core _ = refl
-
--- one without aliases is itself without them
-mutual
-  pub core_core : (tree : Expression) → core (core tree) ≡ core tree
-  core_core (node (AliasOp name) (more tree no_more)) = core_core tree
-  core_core (node (FunctionOp function []) no_more) = nothing_core function
-  core_core (node (FunctionOp function []) (more tree trees)) =
-      function_core function (is_written_out (FunctionOp function []) (tree_count (more tree trees))) tree trees (fold_all op_label trees) (label_of tree) (horizontal_alone function (tree_count (more tree trees))) (cores_core (more tree trees))
-  core_core (node (FunctionOp function (label ∷ recorded)) children) = ap (node (FunctionOp function (label ∷ recorded))) (cores_core children)
-  core_core (node op children) = ap (node op) (cores_core children)
-
-  cores_core : (trees : Trees Op) → all_pruned false (all_pruned false trees) ≡ all_pruned false trees
-  cores_core no_more = refl
-  cores_core (more tree trees) = ap (λ t. more t (all_pruned false (all_pruned false trees))) (core_core tree) ∙ ap (more (core tree)) (cores_core trees)
+  kept_labels : (write : Bool) (trees : Trees Op) → fold_all op_label (all_pruned true write trees) ≡ fold_all op_label trees
+  kept_labels write no_more = refl
+  kept_labels write (more tree trees) = λ i. kept_label write tree i ∷ kept_labels write trees i
 
 -- the name comes from an alias, or is that of the expression without aliases
-abbrev NamedAlike : Label → Label → Type 0
+abbrev pub NamedAlike : Label → Label → Type 0
 NamedAlike own other = (own.origin ≡ FromAlias) ⊎ (own ≡ other)
 
-function_named : (function : FunctionExpr) (out : Bool) (tree : Expression) (trees : Trees Op) → (out ≡ true → is_horizontal function ≡ true) → NamedAlike (label_of tree) (label_of (core tree))
-    → NamedAlike (function_label function (label_of tree ∷ fold_all op_label trees)) (label_of (put_together false out (FunctionOp function []) (label_of tree ∷ fold_all op_label trees) (more (core tree) (all_pruned false trees))))
-function_named AllHorizontal true tree no_more h first = first
-function_named AllHorizontal true tree (more next rest) h first = subst (NamedAlike (label_of tree)) (sym (chain_label LogicalAnd (core tree) (all_pruned false (more next rest)))) first
-function_named AnyHorizontal true tree no_more h first = first
-function_named AnyHorizontal true tree (more next rest) h first = subst (NamedAlike (label_of tree)) (sym (chain_label LogicalOr (core tree) (all_pruned false (more next rest)))) first
-function_named _ true tree trees h first = absurd (not_both (h refl))
-function_named _ false tree trees h first = inr refl
+function_named : (write : Bool) (function : FunctionExpr) (out : Bool) (tree : Expression) (trees : Trees Op) → (out ≡ true → is_horizontal function ≡ true) → NamedAlike (label_of tree) (label_of (pruned false write tree))
+    → NamedAlike (function_label function (label_of tree ∷ fold_all op_label trees)) (label_of (put_together false out (FunctionOp function []) (label_of tree ∷ fold_all op_label trees) (more (pruned false write tree) (all_pruned false write trees))))
+function_named write AllHorizontal true tree no_more h first = first
+function_named write AllHorizontal true tree (more next rest) h first = subst (NamedAlike (label_of tree)) (sym (chain_label LogicalAnd (pruned false write tree) (all_pruned false write (more next rest)))) first
+function_named write AnyHorizontal true tree no_more h first = first
+function_named write AnyHorizontal true tree (more next rest) h first = subst (NamedAlike (label_of tree)) (sym (chain_label LogicalOr (pruned false write tree) (all_pruned false write (more next rest)))) first
+function_named write _ true tree trees h first = absurd (not_both (h refl))
+function_named write _ false tree trees h first = inr refl
 
-nothing_named : (function : FunctionExpr) → NamedAlike (label_of (node (FunctionOp function []) no_more)) (label_of (core (node (FunctionOp function []) no_more)))
-nothing_named AllHorizontal = inr refl
-nothing_named AnyHorizontal = inr refl
-nothing_named _ = inr refl
+nothing_named : (write : Bool) (function : FunctionExpr) → NamedAlike (label_of (node (FunctionOp function []) no_more)) (label_of (pruned false write (node (FunctionOp function []) no_more)))
+nothing_named false function = inr refl
+nothing_named true AllHorizontal = inr refl
+nothing_named true AnyHorizontal = inr refl
+nothing_named true _ = inr refl
 
-pub core_label : (tree : Expression) → ((label_of tree).origin ≡ FromAlias) ⊎ (label_of tree ≡ label_of (core tree))
-core_label (node (ColumnOp name) children) = inr refl
-core_label (node (LiteralOp type value) children) = inr refl
-core_label (node LenOp children) = inr refl
-core_label (node (AliasOp name) children) = inl refl
-core_label (node (FunctionOp function []) no_more) = nothing_named function
-core_label (node (FunctionOp function []) (more tree trees)) =
-    function_named function (is_written_out (FunctionOp function []) (tree_count (more tree trees))) tree trees (horizontal_alone function (tree_count (more tree trees))) (core_label tree)
-core_label (node (FunctionOp function (label ∷ recorded)) children) = inr refl
-core_label (node op (more tree trees)) = core_label tree
-core_label (node op no_more) = inr refl
+pub pruned_label : (write : Bool) (tree : Expression) → NamedAlike (label_of tree) (label_of (pruned false write tree))
+pruned_label write (node (ColumnOp name) children) = inr refl
+pruned_label write (node (LiteralOp type value) children) = inr refl
+pruned_label write (node LenOp children) = inr refl
+pruned_label write (node (AliasOp name) children) = inl refl
+pruned_label write (node (FunctionOp function []) no_more) = nothing_named write function
+pruned_label write (node (FunctionOp function []) (more tree trees)) =
+    function_named write function (is_written_out write (FunctionOp function []) (tree_count (more tree trees))) tree trees (horizontal_alone write function (tree_count (more tree trees))) (pruned_label write tree)
+pruned_label write (node (FunctionOp function (label ∷ recorded)) children) = inr refl
+pruned_label write (node op (more tree trees)) = pruned_label write tree
+pruned_label write (node op no_more) = inr refl
+
+pub core_label : (tree : Expression) → NamedAlike (label_of tree) (label_of (core tree))
+core_label tree = pruned_label false tree
+
+pub spelled_label : (tree : Expression) → NamedAlike (label_of tree) (label_of (spelled tree))
+spelled_label tree = pruned_label true tree

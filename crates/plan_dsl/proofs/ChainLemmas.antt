@@ -1,5 +1,5 @@
 -- A horizontal and the chain for which it is written out: they are typed alike, and mean the same.
-use Rattle.std.proofs.Common.{◌≡◌, ◌≢◌, ℕ, zero, suc, Bool, true, false, ◌&&◌, ◌||◌, cond, List, [], ◌∷◌, length, Option, Some, None, Result, Ok, Err, IsTrue, int_lt, refl, sym, ap, ◌∙◌, subst}
+use Rattle.std.proofs.Common.{◌≡◌, ℕ, zero, suc, Bool, true, false, ◌&&◌, ◌||◌, cond, List, [], ◌∷◌, length, Option, Some, None, Result, Ok, Err, IsTrue, int_lt, refl, sym, ap, ◌∙◌, subst}
 use Rattle.std.specs.Prelude.{ℤ, pos}
 use Rattle.std.specs.List.{AllByRecursion}
 use Rattle.std.proofs.lemmas.Bool.{and_parts}
@@ -14,7 +14,6 @@ use Rattle.plan_types.specs.declared.dtype.CastOptions.TheVariants.{NonStrict}
 use Rattle.plan_types.specs.declared.error.ErrorKind.{ErrorKind}
 use Rattle.plan_types.specs.declared.error.ErrorKind.TheVariants.{InvalidOperation}
 use Rattle.plan_types.proofs.CommonLemmas.{alone_same, literal_has}
-use Rattle.plan_types.proofs.ValueLemmas.{meets_as}
 use Rattle.plan_dsl.specs.declared.function_expr.FunctionExpr.{FunctionExpr}
 use Rattle.plan_dsl.specs.declared.function_expr.FunctionExpr.TheVariants.{AllHorizontal, AnyHorizontal}
 use Rattle.plan_dsl.specs.declared.operator.Operator.{Operator}
@@ -29,26 +28,26 @@ use Rattle.plan_dsl.specs.FunctionValues.{all_true, any_true, function_values}
 use Rattle.plan_dsl.specs.HorizontalLaws.{HorizontalsAreTheirChains, IsItsChain, horizontal_chain, horizontal_node}
 use Rattle.plan_dsl.specs.Kernels.{Meaning, at_each, at_length, cast_column, cast_meaning, common_length, given, kernel, operator_values, stretched}
 use Rattle.plan_dsl.specs.Laws.{AreOf}
-use Rattle.plan_dsl.specs.Meaning.{applied, meaning, meaning_all, node_meaning, ruled_meaning, taken_to}
+use Rattle.plan_dsl.specs.Meaning.{meaning, meaning_all, node_meaning, ruled_meaning, taken_to}
 use Rattle.plan_dsl.specs.Names.{label_of}
 use Rattle.plan_dsl.specs.OperatorTypes.{Taken, is_truth_or_null, pair_to, pair_types, truth_types, with_types}
 use Rattle.plan_dsl.specs.Operators.{both_true, either_true, operator_value}
-use Rattle.plan_dsl.specs.Ops.{Op, AliasOp, BinaryOp, CastOp, FunctionOp, LiteralOp, Expression}
+use Rattle.plan_dsl.specs.Ops.{Op, BinaryOp, CastOp, FunctionOp, LiteralOp, Expression}
 use Rattle.plan_dsl.specs.Registry.{Registry}
 use Rattle.plan_dsl.specs.Rows.{by_row}
 use Rattle.plan_dsl.specs.Signatures.{asked_at, asks, horizontal_ask, horizontal_signature}
 use Rattle.plan_dsl.specs.Strictness.{CanBecome, cast_to}
 use Rattle.plan_dsl.specs.Trees.{Trees, node, no_more, more}
-use Rattle.plan_dsl.specs.Typing.{Typed, Ruling, cast_taken, function_rule, own_over, own_typed, ruled_as, signed, signed_to, some_many, taken_alone, taken_by, taken_from, then_typed, type_before, typed_before, typed_to, types_of, typing, typing_all, typing_rule}
+use Rattle.plan_dsl.specs.Typing.{Typed, Ruling, cast_taken, function_rule, own_typed, rule, ruled_as, signed, signed_to, some_many, taken_alone, taken_by, taken_from, then_typed, type_before, typed_before, typed_to, types_of, typing, typing_all, typing_rule}
 use Rattle.plan_dsl.proofs.AliasLemmas.{alias_means, chain_label}
 use Rattle.plan_dsl.proofs.CastMeaningLemmas.{cast_own, column_by_column}
 use Rattle.plan_dsl.proofs.ChainColumnLemmas.{IsFolded, all_folded, any_folded, over_nothing, over_one, over_two}
 use Rattle.plan_dsl.proofs.ColumnLemmas.{become_fits}
 use Rattle.plan_dsl.proofs.FitLemmas.{cast_means, meaning_has_type, meanings_have_types}
-use Rattle.plan_dsl.proofs.GivenLemmas.{AllMean, MeansType, given_meet}
+use Rattle.plan_dsl.proofs.GivenLemmas.{AllMean, given_meet}
 use Rattle.plan_dsl.proofs.LiteralLemmas.{bare, under, child_is, literal_means, number_cast, number_node, own_number_cast}
 use Rattle.plan_dsl.proofs.SignatureLemmas.{alone_casts}
-use Rattle.plan_dsl.proofs.TypingLemmas.{TypedParts, by_children, by_no_children, typed_parts}
+use Rattle.plan_dsl.proofs.TypingLemmas.{by_children, by_no_children, ok_same, typed_parts}
 
 -- ---- truth values and nulls
 
@@ -103,7 +102,7 @@ logic_becomes (StructType fields) h = absurd (false_true (sym (either_logic (is_
 logic_becomes (Untyped number) h = absurd (false_true (sym (alone_logic number) ∙ h))
 logic_becomes _ h = cc
 
-abbrev of_truth : Bool → Typed
+abbrev pub of_truth : Bool → Typed
 of_truth many = record { type = Truth; many = many }
 
 -- what a pair is taken to
@@ -121,7 +120,7 @@ pair_truths left right =
 
 -- ---- the typing of the node
 
-abbrev truths : List Typed → List Ty
+abbrev pub truths : List Typed → List Ty
 truths [] = []
 truths (t ∷ ts) = Truth ∷ truths ts
 
@@ -219,6 +218,16 @@ module _ (registry : Registry) (function : FunctionExpr) (operator : Operator) (
   abbrev pair : Expression → Expression → Expression
   pair tree next = node (BinaryOp operator) (more tree (more next no_more))
 
+  -- ---- what operands are taken to
+
+  -- each operand of the node to truth values, where there are two or more
+  pub node_takes : (schema : Columns) (f n : Typed) (ts : List Typed) (ruling : Ruling) → rule registry schema op (f ∷ n ∷ ts) ≡ Ok ruling → ruling.operands ≡ truths (f ∷ n ∷ ts)
+  node_takes schema f n ts ruling h =
+      by_test (all_logic (f ∷ n ∷ ts)) (sym (is.rules (f ∷ n ∷ ts) ∙ several_ruled f n ts) ∙ h) where
+        by_test : (b : Bool) → where_logic b (f ∷ n ∷ ts) ≡ Ok ruling → ruling.operands ≡ truths (f ∷ n ∷ ts)
+        by_test true h = ap (λ r. r.operands) (sym (ok_same (where_logic true (f ∷ n ∷ ts)) (ruling_over (f ∷ n ∷ ts)) ruling refl h))
+        by_test false h = cc
+
   -- ---- the typing of the chain
 
   module _ (schema : Columns) where
@@ -229,6 +238,13 @@ module _ (registry : Registry) (function : FunctionExpr) (operator : Operator) (
     pair_ruled f n =
         let many = f.many || (n.many || false) in
         ap (λ take. ruled_as (with_types (type_beside f.type n.type) (type_beside n.type f.type) take) many) is.pairs ∙ ap (λ r. ruled_as r many) (pair_truths f.type n.type)
+
+    -- both operands of a link are taken to truth values
+    pub link_takes : (f n : Typed) (ruling : Ruling) → rule registry schema (BinaryOp operator) (f ∷ n ∷ []) ≡ Ok ruling → ruling ≡ record { operands = Truth ∷ Truth ∷ []; own = of_truth (f.many || (n.many || false)) }
+    link_takes f n ruling h = by_test (may_be_true f.type && may_be_true n.type) (sym (pair_ruled f n) ∙ h) where
+      by_test : (b : Bool) → ruled_as (where_truths b) (f.many || (n.many || false)) ≡ Ok ruling → ruling ≡ record { operands = Truth ∷ Truth ∷ []; own = of_truth (f.many || (n.many || false)) }
+      by_test true h = sym (ok_same (ruled_as (where_truths true) (f.many || (n.many || false))) (record { operands = Truth ∷ Truth ∷ []; own = of_truth (f.many || (n.many || false)) }) ruling refl h)
+      by_test false h = cc
 
     pair_typed : (tree next : Expression) (f n : Typed) → typing registry schema tree ≡ Ok f → typing registry schema next ≡ Ok n → typing registry schema (pair tree next) ≡ where_true (may_be_true f.type && may_be_true n.type) (f.many || (n.many || false))
     pair_typed tree next f n h k =
@@ -315,7 +331,7 @@ module _ (registry : Registry) (function : FunctionExpr) (operator : Operator) (
         by_children (λ _. ArePartsTyped tree (more next rest)) _ _ fs others (λ n ns second last.
         record { first = f; first_typed = first; others = n ∷ parts.others; others_typed = λ i. typed_before (second i) (parts.others_typed i) }))
 
-    chain_parts : (tree : Expression) (trees : Trees Op) (typed : Typed) → typing registry schema (chain operator tree trees) ≡ Ok typed → ArePartsTyped tree trees
+    pub chain_parts : (tree : Expression) (trees : Trees Op) (typed : Typed) → typing registry schema (chain operator tree trees) ≡ Ok typed → ArePartsTyped tree trees
     chain_parts tree no_more typed h = record { first = typed; first_typed = h; others = []; others_typed = refl }
     chain_parts tree (more next rest) typed h = in_front tree next rest (chain_parts (pair tree next) rest typed h)
 

@@ -1,5 +1,5 @@
--- An expression says the same without its aliases, and with its horizontals written out.
-use Rattle.std.proofs.Common.{◌≡◌, ◌⊎◌, inl, inr, ◌&&◌, ℕ, Bool, true, false, not, List, [], ◌∷◌, Result, Ok, Err, refl, sym, ap, ◌∙◌, subst}
+-- An expression says the same without its aliases, whether its horizontals stay or are written out.
+use Rattle.std.proofs.Common.{◌≡◌, ◌&&◌, ℕ, Bool, true, false, List, [], ◌∷◌, Result, Ok, Err, refl, sym, ap, ◌∙◌, subst}
 use Rattle.std.proofs.lemmas.Bool.{and_parts, and_from}
 use Rattle.plan_types.specs.Schemas.{Columns}
 use Rattle.plan_types.specs.Frames.{Frame, IsFrame}
@@ -10,15 +10,16 @@ use Rattle.plan_dsl.specs.declared.operator.Operator.{Operator}
 use Rattle.plan_dsl.specs.declared.operator.Operator.TheVariants.{LogicalAnd, LogicalOr}
 use Rattle.plan_dsl.specs.Registry.{Registry}
 use Rattle.plan_dsl.specs.Trees.{Trees, node, no_more, more, fold_all, tree_count}
-use Rattle.plan_dsl.specs.Aliases.{IsCore, all_pruned, all_write_none, are_core, chain, chained, core, is_core, is_core_op, is_written_out, lets_aliases, prune_node, pruned, put_together, with_names, writes_none}
+use Rattle.plan_dsl.specs.Aliases.{IsCore, all_pruned, are_core, chain, chained, core, is_core, is_core_op, is_written_out, lets_aliases, prune_node, pruned, put_together, with_names}
+use Rattle.plan_dsl.specs.Laws.{SpelledSaySame}
 use Rattle.plan_dsl.specs.Names.{Label, op_label}
 use Rattle.plan_dsl.specs.Ops.{Op, BinaryOp, AliasOp, FunctionOp, Expression}
 use Rattle.plan_dsl.specs.Kernels.{Meaning}
 use Rattle.plan_dsl.specs.Literals.{settled}
 use Rattle.plan_dsl.specs.Meaning.{applied, meaning, meaning_all, node_meaning, ruled_meaning, taken_to}
 use Rattle.plan_dsl.specs.Typing.{Typed, Ruling, own_typed, rule, then_typed, typed_before, types_of, typing, typing_all, typing_rule}
-use Rattle.plan_dsl.proofs.AliasLemmas.{alias, alias_means, core_core, core_settled}
-use Rattle.plan_dsl.proofs.ChainLemmas.{IsChained, all_chained, any_chained, chain_means, chain_typing}
+use Rattle.plan_dsl.proofs.AliasLemmas.{alias, alias_means, alias_typing, pruned_settled}
+use Rattle.plan_dsl.proofs.ChainLemmas.{IsChained, all_chained, any_chained, chain_means, chain_typing, its_chain}
 use Rattle.plan_dsl.proofs.TypingLemmas.{by_children, by_no_children, typed_parts}
 
 -- ---- nodes
@@ -94,31 +95,39 @@ IsWritten (FunctionOp AllHorizontal []) = Unit {0}
 IsWritten (FunctionOp AnyHorizontal []) = Unit {0}
 IsWritten op = ⊥
 
-written_op : (op : Op) (count : ℕ) → is_written_out op count ≡ true → IsWritten op
-written_op (FunctionOp AllHorizontal []) count h = tt
-written_op (FunctionOp AnyHorizontal []) count h = tt
-written_op (FunctionOp function []) count h = cc
-written_op (FunctionOp function (label ∷ recorded)) count h = cc
-written_op op count h = cc
+written_op : (write : Bool) (op : Op) (count : ℕ) → is_written_out write op count ≡ true → IsWritten op
+written_op write (FunctionOp AllHorizontal []) count h = tt
+written_op write (FunctionOp AnyHorizontal []) count h = tt
+written_op true (FunctionOp function []) count h = cc
+written_op false (FunctionOp function []) count h = cc
+written_op write (FunctionOp function (label ∷ recorded)) count h = cc
+written_op write op count h = cc
 
--- what children are put together to: it is typed as the node over them is, and means the same, on a frame where it is written out
-record PutSame (keep out : Bool) (registry : Registry) (frame : Frame) (before after : Expression) (typed : Typed) : Type 0 where
-  pub put_none : keep ≡ false → is_core after ≡ true
-  pub put_typing : typing registry frame.schema after ≡ Ok typed
-  pub put_meaning : (out ≡ true → IsFrame frame) → meaning registry frame after ≡ meaning registry frame before
+-- none is where none are to be
+written_where : (write : Bool) (op : Op) (count : ℕ) → is_written_out write op count ≡ true → write ≡ true
+written_where true op count h = refl
+written_where false (FunctionOp function []) count h = cc
+written_where false op count h = cc
+
+-- an expression without aliases where none are kept, with the typing of another, and its meaning, on a frame where horizontals
+-- are written out
+pub record PrunedSame (keep out : Bool) (registry : Registry) (frame : Frame) (before after : Expression) (typed : Typed) : Type 0 where
+  pub none : keep ≡ false → is_core after ≡ true
+  pub typing : typing registry frame.schema after ≡ Ok typed
+  pub meaning : (out ≡ true → IsFrame frame) → meaning registry frame after ≡ meaning registry frame before
 
 chain_same : (keep : Bool) (registry : Registry) (frame : Frame) (function : FunctionExpr) (operator : Operator) (nothing : Bool) → IsChained function operator nothing → (children : Trees Op) (below : List Typed) (typed : Typed) → (keep ≡ false → are_core children ≡ true) → typing_all registry frame.schema children ≡ Ok below → typing_rule registry frame.schema (FunctionOp function []) below ≡ Ok typed
-    → PutSame keep true registry frame (node (FunctionOp function []) children) (chained operator nothing children) typed
+    → PrunedSame keep true registry frame (node (FunctionOp function []) children) (chained operator nothing children) typed
 chain_same keep registry frame function operator nothing is children below typed none there h =
     let own = ap (λ r. then_typed r (typing_rule registry frame.schema (FunctionOp function []))) there ∙ h in
     record {
-      put_none = λ gone. chained_is_core operator nothing children (none gone);
-      put_typing = chain_typing registry function operator nothing is frame.schema children below there ∙ own;
-      put_meaning = λ of. λ i rows. chain_means registry function operator nothing is frame (of refl) children typed own rows i;
+      none = λ gone. chained_is_core operator nothing children (none gone);
+      typing = chain_typing registry function operator nothing is frame.schema children below there ∙ own;
+      meaning = λ of. λ i rows. chain_means registry function operator nothing is frame (of refl) children typed own rows i;
     }
 
 put_same : (keep out : Bool) (registry : Registry) (frame : Frame) (op : Op) (labels : List Label) (children : Trees Op) (below : List Typed) (typed : Typed) → (out ≡ true → IsWritten op) → (keep ≡ false → are_core children ≡ true) → typing_all registry frame.schema children ≡ Ok below → typing_rule registry frame.schema op below ≡ Ok typed
-    → PutSame keep out registry frame (node op children) (put_together keep out op labels children) typed
+    → PrunedSame keep out registry frame (node op children) (put_together keep out op labels children) typed
 put_same keep true registry frame (FunctionOp AllHorizontal []) labels children below typed written none there h = chain_same keep registry frame AllHorizontal LogicalAnd true all_chained children below typed none there h
 put_same keep true registry frame (FunctionOp AnyHorizontal []) labels children below typed written none there h = chain_same keep registry frame AnyHorizontal LogicalOr false any_chained children below typed none there h
 put_same keep true registry frame _ labels children below typed written none there h = absurd (written refl)
@@ -126,81 +135,112 @@ put_same keep false registry frame op labels children below typed written none t
     let own = ap own_typed (names_ruled registry frame.schema op labels below) ∙ h in
     let top = top_pruned keep registry frame (with_names op labels) children below typed none there own in
     record {
-      put_none = top.none;
-      put_typing = top.typing;
-      put_meaning = λ of. top.meaning ∙ names_mean registry frame op labels (typing_all registry frame.schema children) (meaning_all registry frame children);
+      none = top.none;
+      typing = top.typing;
+      meaning = λ of. top.meaning ∙ names_mean registry frame op labels (typing_all registry frame.schema children) (meaning_all registry frame children);
     }
 
+-- and the node over the children has the typing that they have so put together
+names_typed : (registry : Registry) (schema : Columns) (op : Op) (labels : List Label) (children : Trees Op) → typing registry schema (node (with_names op labels) children) ≡ typing registry schema (node op children)
+names_typed registry schema op labels children = λ i. then_typed (typing_all registry schema children) (λ typed. own_typed (names_ruled registry schema op labels typed i))
+
+unpruned : (keep : Bool) (registry : Registry) (schema : Columns) (op : Op) (children : Trees Op) (typed : Typed) → typing registry schema (prune_node keep op children) ≡ Ok typed → typing registry schema (node op children) ≡ Ok typed
+unpruned true registry schema op children typed h = ap (typing registry schema) (sym (kept_node op children)) ∙ h
+unpruned false registry schema (AliasOp name) (more tree no_more) typed h = alias_typing registry schema name tree typed h
+unpruned false registry schema op children typed h = h
+
+put_alone : (keep out : Bool) (registry : Registry) (schema : Columns) (op : Op) (labels : List Label) (children : Trees Op) (typed : Typed) → (out ≡ true → IsWritten op) → typing registry schema (put_together keep out op labels children) ≡ Ok typed → typing registry schema (node op children) ≡ Ok typed
+put_alone keep true registry schema (FunctionOp AllHorizontal []) labels children typed written h = (its_chain registry schema AllHorizontal children refl).typed_alone typed h
+put_alone keep true registry schema (FunctionOp AnyHorizontal []) labels children typed written h = (its_chain registry schema AnyHorizontal children refl).typed_alone typed h
+put_alone keep true registry schema _ labels children typed written h = absurd (written refl)
+put_alone keep false registry schema op labels children typed written h =
+    sym (names_typed registry schema op labels children) ∙ unpruned keep registry schema (with_names op labels) children typed h
+
 -- ---- expressions
+
+pub record AllPrunedSame (keep write : Bool) (registry : Registry) (frame : Frame) (before after : Trees Op) (typed : List Typed) : Type 0 where
+  pub all_none : keep ≡ false → are_core after ≡ true
+  pub typings : typing_all registry frame.schema after ≡ Ok typed
+  pub meanings : (write ≡ true → IsFrame frame) → meaning_all registry frame after ≡ meaning_all registry frame before
+
+module _ (registry : Registry) (frame : Frame) (write : Bool) where
+  mutual
+    pub pruned_same : (keep : Bool) (tree : Expression) (typed : Typed) → typing registry frame.schema tree ≡ Ok typed → PrunedSame keep write registry frame tree (pruned keep write tree) typed
+    pruned_same keep (node op children) typed h =
+        let p = typed_parts registry frame.schema op children typed h in
+        let count = tree_count children in
+        let lets = lets_aliases write op count in
+        let below = all_pruned (keep && lets) write children in
+        let all = all_pruned_same (keep && lets) children p.below p.children_typed in
+        let put = put_same keep (is_written_out write op count) registry frame op (fold_all op_label children) below p.below typed (written_op write op count) (λ gone. all.all_none (ap (λ b. b && lets) gone)) all.typings (ap own_typed p.rules ∙ ap Ok p.is) in
+        record {
+          none = put.none;
+          typing = put.typing;
+          meaning = λ of.
+              put.meaning (λ out. of (written_where write op count out))
+              ∙ ap (λ r. node_meaning registry frame op r (meaning_all registry frame below)) (all.typings ∙ sym p.children_typed)
+              ∙ ap (node_meaning registry frame op (typing_all registry frame.schema children)) (all.meanings of);
+        }
+
+    pub all_pruned_same : (keep : Bool) (trees : Trees Op) (typed : List Typed) → typing_all registry frame.schema trees ≡ Ok typed → AllPrunedSame keep write registry frame trees (all_pruned keep write trees) typed
+    all_pruned_same keep no_more typed h = record { all_none = λ gone. refl; typings = h; meanings = λ of. refl }
+    all_pruned_same keep (more tree trees) typed h =
+        by_children (AllPrunedSame keep write registry frame (more tree trees) (more (pruned keep write tree) (all_pruned keep write trees))) _ _ typed h (λ t ts first rest.
+        let one = pruned_same keep tree t first in
+        let others = all_pruned_same keep trees ts rest in
+        record {
+          all_none = λ gone. and_from (is_core (pruned keep write tree)) (are_core (all_pruned keep write trees)) (one.none gone) (others.all_none gone);
+          typings = ap (λ r. typed_before r (typing_all registry frame.schema (all_pruned keep write trees))) one.typing ∙ ap (typed_before (Ok t)) others.typings;
+          meanings = λ of. ap (λ m. m ∷ meaning_all registry frame (all_pruned keep write trees)) (one.meaning of) ∙ ap (λ l. meaning registry frame tree ∷ l) (others.meanings of);
+        })
+
+-- an expression has the typing that it has so
+module _ (registry : Registry) (schema : Columns) (write : Bool) where
+  mutual
+    pub pruned_alone : (keep : Bool) (tree : Expression) (typed : Typed) → typing registry schema (pruned keep write tree) ≡ Ok typed → typing registry schema tree ≡ Ok typed
+    pruned_alone keep (node op children) typed h =
+        let count = tree_count children in
+        let lets = keep && lets_aliases write op count in
+        let below = all_pruned lets write children in
+        let p = typed_parts registry schema op below typed (put_alone keep (is_written_out write op count) registry schema op (fold_all op_label children) below typed (written_op write op count) h) in
+        ap (λ r. then_typed r (typing_rule registry schema op)) (all_pruned_alone lets children p.below p.children_typed) ∙ ap own_typed p.rules ∙ ap Ok p.is
+
+    all_pruned_alone : (keep : Bool) (trees : Trees Op) (typed : List Typed) → typing_all registry schema (all_pruned keep write trees) ≡ Ok typed → typing_all registry schema trees ≡ Ok typed
+    all_pruned_alone keep no_more typed h = h
+    all_pruned_alone keep (more tree trees) typed h =
+        by_children (λ typed. typing_all registry schema (more tree trees) ≡ Ok typed) _ _ typed h (λ t ts first rest.
+        ap (λ r. typed_before r (typing_all registry schema trees)) (pruned_alone keep tree t first) ∙ ap (typed_before (Ok t)) (all_pruned_alone keep trees ts rest))
+
+-- so a typed one has no aliases
+pub pruned_none : (write : Bool) (registry : Registry) (schema : Columns) (tree : Expression) (typed : Typed) → typing registry schema (pruned false write tree) ≡ Ok typed → IsCore (pruned false write tree)
+pruned_none write registry schema tree typed h =
+    (pruned_same registry (record { schema = schema; rows = [] }) write false tree typed (pruned_alone registry schema write false tree typed h)).none refl
+
+pub settled_none : (write : Bool) (registry : Registry) (schema : Columns) (tree : Expression) (typed : Typed) → typing registry schema (settled (pruned false write tree)) ≡ Ok typed → IsCore (settled (pruned false write tree))
+settled_none write registry schema tree typed h =
+    let e = pruned_settled write tree in subst IsCore e (pruned_none write registry schema (settled tree) typed (ap (typing registry schema) e ∙ h))
 
 false_true : false ≡ true → ⊥
 false_true h = cc
 
--- the rows are those of a frame, or no horizontal in the expression is written out
-abbrev Admits : Frame → Bool → Type 0
-Admits frame none = IsFrame frame ⊎ (none ≡ true)
+pub core_meaning : (registry : Registry) (frame : Frame) (tree : Expression) (typed : Typed) → typing registry frame.schema tree ≡ Ok typed → meaning registry frame (core tree) ≡ meaning registry frame tree
+core_meaning registry frame tree typed h = (pruned_same registry frame false false tree typed h).meaning (λ write. absurd (false_true write))
 
-admits_out : (frame : Frame) (out rest : Bool) → Admits frame (not out && rest) → out ≡ true → IsFrame frame
-admits_out frame out rest (inl of) e = of
-admits_out frame true rest (inr none) e = absurd (false_true none)
-admits_out frame false rest (inr none) e = absurd (false_true e)
+-- ---- horizontals that stay, and such as are written out
 
-admits_front : (frame : Frame) (a b : Bool) → Admits frame (a && b) → Admits frame a
-admits_front frame a b (inl of) = inl of
-admits_front frame a b (inr none) = inr (and_parts a b none).0
+-- one is typed so where the other is
+pub alike_typed : (registry : Registry) (schema : Columns) (keep write other : Bool) (tree : Expression) (typed : Typed) → typing registry schema (pruned keep write tree) ≡ Ok typed → typing registry schema (pruned keep other tree) ≡ Ok typed
+alike_typed registry schema keep write other tree typed h =
+    (pruned_same registry (record { schema = schema; rows = [] }) other keep tree typed (pruned_alone registry schema write keep tree typed h)).typing
 
-admits_rest : (frame : Frame) (a b : Bool) → Admits frame (a && b) → Admits frame b
-admits_rest frame a b (inl of) = inl of
-admits_rest frame a b (inr none) = inr (and_parts a b none).1
-
-pub record CoreSays (keep : Bool) (registry : Registry) (frame : Frame) (before after : Expression) (typed : Typed) : Type 0 where
-  pub none : keep ≡ false → is_core after ≡ true
-  pub typing : typing registry frame.schema after ≡ Ok typed
-  pub meaning : Admits frame (writes_none before) → meaning registry frame after ≡ meaning registry frame before
-
-record AllCoresSay (keep : Bool) (registry : Registry) (frame : Frame) (before after : Trees Op) (typed : List Typed) : Type 0 where
-  pub all_none : keep ≡ false → are_core after ≡ true
-  pub typings : typing_all registry frame.schema after ≡ Ok typed
-  pub meanings : Admits frame (all_write_none before) → meaning_all registry frame after ≡ meaning_all registry frame before
-
-module _ (registry : Registry) (frame : Frame) where
-  mutual
-    pub pruned_same : (keep : Bool) (tree : Expression) (typed : Typed) → typing registry frame.schema tree ≡ Ok typed → CoreSays keep registry frame tree (pruned keep tree) typed
-    pruned_same keep (node op children) typed h =
-        let p = typed_parts registry frame.schema op children typed h in
-        let count = tree_count children in
-        let lets = lets_aliases op count in
-        let below = all_pruned (keep && lets) children in
-        let all = all_pruned_same (keep && lets) children p.below p.children_typed in
-        let put = put_same keep (is_written_out op count) registry frame op (fold_all op_label children) below p.below typed (written_op op count) (λ gone. all.all_none (ap (λ b. b && lets) gone)) all.typings (ap own_typed p.rules ∙ ap Ok p.is) in
-        record {
-          none = put.put_none;
-          typing = put.put_typing;
-          meaning = λ admits.
-              put.put_meaning (admits_out frame (is_written_out op count) (all_write_none children) admits)
-              ∙ ap (λ r. node_meaning registry frame op r (meaning_all registry frame below)) (all.typings ∙ sym p.children_typed)
-              ∙ ap (node_meaning registry frame op (typing_all registry frame.schema children)) (all.meanings (admits_rest frame (not (is_written_out op count)) (all_write_none children) admits));
-        }
-
-    all_pruned_same : (keep : Bool) (trees : Trees Op) (typed : List Typed) → typing_all registry frame.schema trees ≡ Ok typed → AllCoresSay keep registry frame trees (all_pruned keep trees) typed
-    all_pruned_same keep no_more typed h = record { all_none = λ gone. refl; typings = h; meanings = λ admits. refl }
-    all_pruned_same keep (more tree trees) typed h =
-        by_children (AllCoresSay keep registry frame (more tree trees) (more (pruned keep tree) (all_pruned keep trees))) _ _ typed h (λ t ts first rest.
-        let one = pruned_same keep tree t first in
-        let others = all_pruned_same keep trees ts rest in
-        record {
-          all_none = λ gone. and_from (is_core (pruned keep tree)) (are_core (all_pruned keep trees)) (one.none gone) (others.all_none gone);
-          typings = ap (λ r. typed_before r (typing_all registry frame.schema (all_pruned keep trees))) one.typing ∙ ap (typed_before (Ok t)) others.typings;
-          meanings = λ admits.
-              ap (λ m. m ∷ meaning_all registry frame (all_pruned keep trees)) (one.meaning (admits_front frame (writes_none tree) (all_write_none trees) admits))
-              ∙ ap (λ l. meaning registry frame tree ∷ l) (others.meanings (admits_rest frame (writes_none tree) (all_write_none trees) admits));
-        })
-
-  pub core_same : (tree : Expression) (typed : Typed) → typing registry frame.schema tree ≡ Ok typed → CoreSays false registry frame tree (core tree) typed
-  core_same tree typed h = pruned_same false tree typed h
-
--- so a typed one has none
-pub core_none : (registry : Registry) (schema : Columns) (tree : Expression) (typed : Typed) → typing registry schema (settled (core tree)) ≡ Ok typed → IsCore (settled (core tree))
-core_none registry schema tree typed h =
-    let same = core_same registry (record { schema = schema; rows = [] }) (settled (core tree)) typed h in
-    subst IsCore (core_settled (core tree) ∙ ap settled (core_core tree)) (same.none refl)
+pub spelled_same : SpelledSaySame
+spelled_same registry schema tree = record {
+  typed = alike_typed registry schema false false true tree;
+  typed_alone = alike_typed registry schema false true false tree;
+  none = λ typed h. pruned_none true registry schema tree typed (alike_typed registry schema false false true tree typed h);
+  meaning = λ frame typed of same h.
+      let own = pruned_alone registry frame.schema false false tree typed (ap (λ s. typing registry s (core tree)) same ∙ h) in
+      (pruned_same registry frame true false tree typed own).meaning (λ write. of) ∙ sym (core_meaning registry frame tree typed own);
+  settled_core = sym (pruned_settled false tree);
+  settled_spelled = sym (pruned_settled true tree);
+}

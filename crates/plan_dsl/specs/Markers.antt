@@ -2,7 +2,7 @@
 -- A marker stands for columns of a schema: for all, for those of a list of names, of some types, or at places, for what
 -- another marker stands for but some, or for what a selector makes. The names of a group_by's keys are left out of all
 -- markers but lists of names and places.
-use Rattle.std.specs.Prelude.{ℤ, pos, negsuc, List, [], ◌∷◌, ◌++◌, length, Bool, true, false, not, filter, slice_get, Result, Ok, Err, if◌then◌else◌}
+use Rattle.std.specs.Prelude.{ℤ, pos, negsuc, List, [], ◌∷◌, ◌++◌, length, Bool, false, not, filter, slice_get, Result, Ok, Err}
 use Rattle.std.specs.List.{list_any}
 use Rattle.std.specs.Option.{ok_or, option_map_or}
 use Rattle.plan_types.specs.Types.{Ty, same_type}

@@ -5,7 +5,7 @@ ghost use Rattle.plan_types.specs.Types.{Untyped};
 ghost use Rattle.plan_types.specs.Outcomes.{Done, Stuck};
 ghost use Rattle.plan_types.specs.declared.dtype.CastOptions.TheVariants.{NonStrict};
 ghost use Rattle.plan_types.specs.declared.error.ErrorKind.TheVariants.{ColumnNotFound, InvalidOperation, SchemaMismatch};
-ghost use Rattle.plan_dsl.specs.Aliases.{core, inputs_pruned, is_core, pruned, renamed};
+ghost use Rattle.plan_dsl.specs.Aliases.{core, is_core, pruned, renamed};
 ghost use Rattle.plan_dsl.specs.Literals.{settled};
 ghost use Rattle.plan_dsl.specs.Names.{alias_label, column_label, label_of, literal_label};
 ghost use Rattle.plan_dsl.specs.Ops.{AliasOp};
@@ -49,8 +49,7 @@ pub fn expressions_without_aliases()
     ensures cores { Gives core (
         (a, a) ∷ (alias "x" a, a) ∷ (alias "y" (alias "x" a), a) ∷ (sum (alias "x" a) (alias "y" (sum a (alias "z" one))), sum a (sum a one)) ∷
         (slice (alias "x" a) (alias "y" one) one, slice a one one) ∷ []) }
-    ensures with_aliases { Gives (pruned true) ((alias "x" a, alias "x" a) ∷ (sum (alias "x" a) one, sum (alias "x" a) one) ∷ []) }
-    ensures below { Gives (inputs_pruned false) ((alias "y" (alias "x" a), alias "y" a) ∷ (sum (alias "x" a) b, sum a b) ∷ (a, a) ∷ []) }
+    ensures with_aliases { Gives (pruned true true) ((alias "x" a, alias "x" a) ∷ (sum (alias "x" a) one, sum (alias "x" a) one) ∷ []) }
     ensures have_aliases { Gives is_core ((a, true) ∷ (sum a b, true) ∷ (alias "x" a, false) ∷ (sum a (alias "x" b), false) ∷ (slice a one (alias "x" one), false) ∷ []) }
     ensures others { GivesOfTwo renamed ((a, b, b) ∷ (alias "x" a, b, alias "x" b) ∷ (alias "y" (alias "x" a), b, alias "y" (alias "x" b)) ∷ (sum (alias "x" a) a, b, b) ∷ []) }
     ensures values { means table (alias "x" (sum a a)) ≡ means table (sum a a) }

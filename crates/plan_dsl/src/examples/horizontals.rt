@@ -1,22 +1,21 @@
 //! Horizontals: written out where they are few, with values of their own where they are many. Their inputs are expanded in
 //! place. Fields of structs at places get their names.
 
-ghost use Rattle.std.specs.Prelude.{◌≡◌, ℕ, List, [], ◌∷◌, ◌++◌, pos, neg_ℤ, map, replicate, codes, true, false, Some, None, Result, Ok, Err};
+ghost use Rattle.std.specs.Prelude.{◌≡◌, [], ◌∷◌, ◌++◌, pos, neg_ℤ, replicate, codes, true, false, Some, None, Ok, Err};
 ghost use Rattle.plan_types.specs.Types.{Ty, Truth, NullType, TextType, DateType};
 ghost use Rattle.plan_types.specs.Outcomes.{Done, Fault};
 ghost use Rattle.plan_types.specs.Schemas.{Columns};
 ghost use Rattle.plan_types.specs.declared.dtype.CastOptions.TheVariants.{NonStrict};
-ghost use Rattle.plan_types.specs.declared.error.ErrorKind.{ErrorKind};
-ghost use Rattle.plan_types.specs.declared.error.ErrorKind.TheVariants.{ColumnNotFound, SchemaMismatch, InvalidOperation, ComputeError};
+ghost use Rattle.plan_types.specs.declared.error.ErrorKind.TheVariants.{ColumnNotFound, InvalidOperation, ComputeError};
 ghost use Rattle.plan_dsl.specs.declared.function_expr.FunctionExpr.{FunctionExpr};
-ghost use Rattle.plan_dsl.specs.declared.function_expr.FunctionExpr.TheVariants.{AllHorizontal, AnyHorizontal, FieldByName, FieldByIndex, FillNull, IsNull, IsNotNull};
+ghost use Rattle.plan_dsl.specs.declared.function_expr.FunctionExpr.TheVariants.{AllHorizontal, AnyHorizontal, FieldByName, FillNull, IsNull, IsNotNull};
 ghost use Rattle.plan_dsl.specs.declared.operator.Operator.TheVariants.{LogicalAnd, LogicalOr};
 ghost use Rattle.plan_dsl.specs.declared.signature.Ask.TheVariants.{Boolean, Castable};
-ghost use Rattle.plan_dsl.specs.Aliases.{core, is_written_out, pruned, writes_none};
+ghost use Rattle.plan_dsl.specs.Aliases.{core, is_written_out, pruned, spelled};
 ghost use Rattle.plan_dsl.specs.Expansion.{expansion, field_at, in_place, predicate_expansion};
 ghost use Rattle.plan_dsl.specs.FunctionValues.{all_true, any_true, function_values};
 ghost use Rattle.plan_dsl.specs.Kernels.{operator_values};
-ghost use Rattle.plan_dsl.specs.Names.{alias_label, label_of, literal_label};
+ghost use Rattle.plan_dsl.specs.Names.{alias_label, column_label, label_of, literal_label};
 ghost use Rattle.plan_dsl.specs.Ops.{Expression, FunctionOp, LiteralOp};
 ghost use Rattle.plan_dsl.specs.Plans.{all_known_values, nulls_filled, source_call};
 ghost use Rattle.plan_dsl.specs.Signatures.{horizontal_ask};
@@ -24,28 +23,44 @@ ghost use Rattle.plan_dsl.specs.Strictness.{is_strict};
 ghost use Rattle.plan_dsl.specs.Sources.{FieldAtOp, KeepRoot, Source, is_plain, written};
 ghost use Rattle.plan_dsl.specs.Trees.{node, no_more, more};
 ghost use Rattle.plan_dsl.specs.Typing.{kinds_in, typing};
-ghost use Rattle.plan_dsl.specs.Samples.{Gives, GivesOfTwo, int8, null, yes, no, number, struct_type, a, b, c, d, s, t, u, one, nothing, sum, binary, equal, cast_as, alias, call, of_many, of_one, means, alone, beside, schema_ab, schema_abc, all_names, all, columns_named, columns_of_type, nth, but_named, selecting, root, form, prefix, plus, equals, source_alias};
+ghost use Rattle.plan_dsl.specs.Samples.{Gives, GivesOfTwo, int8, null, yes, no, number, struct_type, a, b, c, d, s, t, u, one, nothing, sum, binary, equal, cast_as, alias, call, of_many, of_one, means, alone, beside, schema_ab, all_names, all, columns_named, columns_of_type, nth, but_named, selecting, root, form, prefix, plus, equals, source_alias};
 
-/// Over nothing a horizontal is a literal, over one operand a cast, and over more a chain from the left. Aliases go, and are
-/// kept where they are. From 128 operands on it stays, and so does one that has recorded names. What it is written out to has
-/// its type.
+/// In a lowered plan a horizontal over nothing is a literal, over one operand a cast, and over more a chain from the left.
+/// Aliases go, and are kept where they are. From 128 operands on it stays, and so does one that has recorded names. What it is
+/// written out to has its type.
 pub fn written_out_horizontals()
-    ensures cores { let literal : Expression = node (LiteralOp Truth yes) no_more in
+    ensures spelled { let literal : Expression = node (LiteralOp Truth yes) no_more in
         let other : Expression = node (LiteralOp Truth no) no_more in
-        Gives core (
+        Gives spelled (
         (call AllHorizontal [], literal) ∷ (call AnyHorizontal [], other) ∷ (call AllHorizontal (a ∷ []), cast_as NonStrict Truth a) ∷ (call AnyHorizontal (t ∷ []), cast_as NonStrict Truth t) ∷
         (call AllHorizontal (a ∷ b ∷ []), binary LogicalAnd a b) ∷ (call AnyHorizontal (a ∷ b ∷ c ∷ []), binary LogicalOr (binary LogicalOr a b) c) ∷
         (call AllHorizontal (a ∷ b ∷ c ∷ t ∷ []), binary LogicalAnd (binary LogicalAnd (binary LogicalAnd a b) c) t) ∷
         (call AllHorizontal (alias "x" a ∷ call AnyHorizontal (b ∷ alias "y" c ∷ []) ∷ []), binary LogicalAnd a (binary LogicalOr b c)) ∷
         (alias "z" (call AllHorizontal (a ∷ b ∷ [])), binary LogicalAnd a b) ∷ []) }
-    ensures kept { Gives (pruned true) (
+    ensures kept { Gives (pruned true true) (
         (call AllHorizontal (alias "x" a ∷ b ∷ []), binary LogicalAnd (alias "x" a) b) ∷ (alias "z" (call AnyHorizontal (alias "x" a ∷ [])), alias "z" (cast_as NonStrict Truth (alias "x" a))) ∷ []) }
     ensures names { Gives label_of ((call AllHorizontal (alias "x" a ∷ b ∷ []), alias_label (codes "x")) ∷ (call AllHorizontal [], literal_label (codes "literal")) ∷ []) }
-    ensures sizes { GivesOfTwo is_written_out (
+    ensures sizes { GivesOfTwo (is_written_out true) (
         (FunctionOp AllHorizontal [], 0, true) ∷ (FunctionOp AllHorizontal [], 127, true) ∷ (FunctionOp AllHorizontal [], 128, false) ∷ (FunctionOp AnyHorizontal [], 127, true) ∷ (FunctionOp AnyHorizontal [], 300, false) ∷
         (FunctionOp AllHorizontal (alias_label (codes "x") ∷ []), 1, false) ∷ (FunctionOp IsNull [], 1, false) ∷ []) }
-    ensures typed { Gives (typing [] schema_ab) ((core (call AllHorizontal (equal a one ∷ equal b one ∷ [])), of_many Truth) ∷ (core (call AllHorizontal (a ∷ [])), of_many Truth) ∷ (core (call AllHorizontal (a ∷ b ∷ [])), Err InvalidOperation) ∷ (core (call AnyHorizontal []), of_one Truth) ∷ []) }
-    ensures writing { Gives writes_none ((a, true) ∷ (call AllHorizontal (a ∷ []), false) ∷ (alias "z" (equal a (call AnyHorizontal [])), false) ∷ (call IsNull (a ∷ []), true) ∷ (call AllHorizontal (replicate 128 a), true) ∷ []) }
+    ensures typed { Gives (typing [] schema_ab) ((spelled (call AllHorizontal (equal a one ∷ equal b one ∷ [])), of_many Truth) ∷ (spelled (call AllHorizontal (a ∷ [])), of_many Truth) ∷ (spelled (call AllHorizontal (a ∷ b ∷ [])), Err InvalidOperation) ∷ (spelled (call AnyHorizontal []), of_one Truth) ∷ []) }
+{}
+
+/// Without its aliases alone an expression keeps its horizontals as nodes, over any number of operands, with these's names.
+/// Its rules are those of the nodes: the chain over a wrong operand is refused for it beside an unknown column too.
+pub fn horizontals_as_nodes()
+    ensures cores { let both = alias_label (codes "x") ∷ column_label (codes "b") ∷ [] in
+        let below = node (FunctionOp AnyHorizontal both) (more a (more b no_more)) in
+        Gives core (
+        (call AllHorizontal [], call AllHorizontal []) ∷ (call AllHorizontal (a ∷ []), node (FunctionOp AllHorizontal (column_label (codes "a") ∷ [])) (more a no_more)) ∷
+        (call AnyHorizontal (alias "x" a ∷ b ∷ []), below) ∷ (alias "z" (call AllHorizontal (call AnyHorizontal (alias "x" a ∷ b ∷ []) ∷ [])), node (FunctionOp AllHorizontal (alias_label (codes "x") ∷ [])) (more below no_more)) ∷ []) }
+    ensures kept { Gives (pruned true false) (
+        (alias "z" (call AnyHorizontal (alias "x" a ∷ [])), alias "z" (node (FunctionOp AnyHorizontal (alias_label (codes "x") ∷ [])) (more a no_more))) ∷ (sum (alias "x" a) one, sum (alias "x" a) one) ∷ []) }
+    ensures sizes { GivesOfTwo (is_written_out false) ((FunctionOp AllHorizontal [], 0, false) ∷ (FunctionOp AnyHorizontal [], 127, false) ∷ (FunctionOp AllHorizontal [], 128, false) ∷ []) }
+    ensures kinds { let columns : Columns = (codes "a", int8) ∷ (codes "t", Truth) ∷ [] in
+        Gives (kinds_in [] columns) (
+        (core (call AllHorizontal (a ∷ t ∷ c ∷ [])), ColumnNotFound ∷ []) ∷ (spelled (call AllHorizontal (a ∷ t ∷ c ∷ [])), InvalidOperation ∷ ColumnNotFound ∷ []) ∷
+        (core (call AllHorizontal (a ∷ t ∷ [])), InvalidOperation ∷ []) ∷ (core (call AllHorizontal (c ∷ [])), ColumnNotFound ∷ []) ∷ []) }
 {}
 
 /// A horizontal asks nothing over no operand. One alone can be cast to truth values, and each of more is of truth values or
@@ -62,7 +77,7 @@ pub fn operands_of_horizontals()
         (call AnyHorizontal (replicate 126 t ++ a ∷ []), Err InvalidOperation) ∷ (call AllHorizontal (replicate 127 t ++ a ∷ []), Err InvalidOperation) ∷ []) }
     ensures kinds { let columns : Columns = (codes "a", int8) ∷ (codes "t", Truth) ∷ [] in
         Gives (kinds_in [] columns) (
-        (call AllHorizontal (a ∷ t ∷ c ∷ []), ColumnNotFound ∷ []) ∷ (core (call AllHorizontal (a ∷ t ∷ c ∷ [])), InvalidOperation ∷ ColumnNotFound ∷ []) ∷ (call AllHorizontal (a ∷ t ∷ []), InvalidOperation ∷ []) ∷ []) }
+        (call AllHorizontal (a ∷ t ∷ c ∷ []), ColumnNotFound ∷ []) ∷ (call AllHorizontal (a ∷ t ∷ []), InvalidOperation ∷ []) ∷ []) }
     ensures values { let table = beside Truth int8 ((yes, number 0) ∷ (no, number 2) ∷ (null, null) ∷ []) in
         Gives (means table) (
         (call AllHorizontal [], Done (yes ∷ [])) ∷ (call AnyHorizontal [], Done (no ∷ [])) ∷ (call AllHorizontal (a ∷ []), Done (yes ∷ no ∷ null ∷ [])) ∷ (call AnyHorizontal (b ∷ []), Done (no ∷ yes ∷ null ∷ [])) ∷

@@ -1,6 +1,6 @@
-use Rattle.std.proofs.Common.{refl, [], Ok, ap, ◌∙◌}
+use Rattle.std.proofs.Common.{refl, false, [], Ok, ap, ◌∙◌}
 use Rattle.plan_dsl.proofs.ChainLemmas.{its_chain}
-use Rattle.plan_dsl.proofs.CoreLemmas.{core_same}
+use Rattle.plan_dsl.proofs.CoreLemmas.{core_meaning, pruned_same, spelled_same}
 use Rattle.plan_dsl.proofs.LiteralLemmas.{untyped_is_number}
 use Rattle.plan_dsl.proofs.OperandLemmas.{operands_same, operands_strict}
 use Rattle.plan_dsl.proofs.OpLemmas.{keeps_rule}
@@ -31,12 +31,11 @@ returns-clause-taken_operands c registry schema op trees typed ruling h rules kn
 
 pub returns-clause-cores : goal.returns-clause-cores
 returns-clause-cores c registry schema tree typed typing =
-    let same = core_same registry (record { schema = schema; rows = [] }) tree typed typing in
-    record {
-      none = same.none refl;
-      typing = same.typing;
-      meaning = λ rows admits. (core_same registry (record { schema = schema; rows = rows }) tree typed typing).meaning admits;
-    }
+    let same = pruned_same registry (record { schema = schema; rows = [] }) false false tree typed typing in
+    record { none = same.none refl; typing = same.typing; meaning = λ rows. core_meaning registry (record { schema = schema; rows = rows }) tree typed typing }
+
+pub returns-clause-spelled : goal.returns-clause-spelled
+returns-clause-spelled c = spelled_same
 
 pub returns-clause-horizontals : goal.returns-clause-horizontals
 returns-clause-horizontals c = its_chain

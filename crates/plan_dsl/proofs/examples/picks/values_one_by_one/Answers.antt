@@ -1,7 +1,7 @@
 use Rattle.std.proofs.Common.{◌≡◌, List, [], ◌∷◌, Some, map, refl, ap}
 use Rattle.plan_types.specs.Outcomes.{Done, Fault}
 use Rattle.plan_types.specs.Values.{Val}
-use Rattle.plan_dsl.specs.Samples.{no, null, yes}
+use Rattle.plan_dsl.specs.Samples.{no, null}
 use Rattle.plan_dsl.proofs.examples.picks.values_one_by_one.Goals as goal
 
 pub returns-clause-each : goal.returns-clause-each
