@@ -46,7 +46,7 @@ pub fn written_out_horizontals()
     ensures typed { Gives (typing [] schema_ab) ((spelled (call AllHorizontal (equal a one ∷ equal b one ∷ [])), of_many Truth) ∷ (spelled (call AllHorizontal (a ∷ [])), of_many Truth) ∷ (spelled (call AllHorizontal (a ∷ b ∷ [])), Err InvalidOperation) ∷ (spelled (call AnyHorizontal []), of_one Truth) ∷ []) }
 {}
 
-/// Without its aliases alone an expression keeps its horizontals as nodes, over any number of operands, with these's names.
+/// Without its aliases an expression keeps its horizontals as nodes over any number of operands, whose names they record.
 /// Its rules are those of the nodes: the chain over a wrong operand is refused for it beside an unknown column too.
 pub fn horizontals_as_nodes()
     ensures cores { let both = alias_label (codes "x") ∷ column_label (codes "b") ∷ [] in
