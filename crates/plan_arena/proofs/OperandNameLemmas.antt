@@ -8,7 +8,7 @@ use Rattle.plan_dsl.specs.declared.function_expr.FunctionExpr.{FunctionExpr}
 use Rattle.plan_dsl.specs.declared.function_expr.FunctionExpr.TheVariants.{AllHorizontal, AnyHorizontal, FieldByIndex}
 use Rattle.plan_dsl.specs.declared.operator.Operator.{Operator}
 use Rattle.plan_dsl.specs.declared.operator.Operator.TheVariants.{LogicalAnd, LogicalOr}
-use Rattle.plan_dsl.specs.Aliases.{all_pruned, chain, chained, core, is_written_out, put_together}
+use Rattle.plan_dsl.specs.Aliases.{all_pruned, chain, chained, is_written_out, pruned, put_together, spelled}
 use Rattle.plan_dsl.specs.Expressions.{behind_order, function_source, input_tree, plain_tree, row_trees}
 use Rattle.plan_dsl.specs.Functions.{is_horizontal}
 use Rattle.plan_dsl.specs.Literals.{settled}
@@ -16,7 +16,7 @@ use Rattle.plan_dsl.specs.Names.{Label, op_label}
 use Rattle.plan_dsl.specs.Ops.{Op, BinaryOp, AliasOp, FunctionOp, Expression}
 use Rattle.plan_dsl.specs.Sources.{SourceOp, all_unwritten, unwritten}
 use Rattle.plan_dsl.specs.Trees.{Trees, node, no_more, more, fold_all, tree_count}
-use Rattle.plan_dsl.proofs.AliasLemmas.{core_label, horizontal_alone}
+use Rattle.plan_dsl.proofs.AliasLemmas.{horizontal_alone, pruned_label}
 use Rattle.plan_arena.specs.Runs.{AllNameOperands, AreNamesFor, NamesOperands}
 
 -- ---- a query's expression records none
@@ -85,9 +85,9 @@ chained_names operator nothing (more tree no_more) below = (tt, below)
 chained_names operator nothing (more tree (more next rest)) below = chain_names operator tree (more next rest) below.0 below.1
 
 -- each operand's name is an alias, or that of the operand without aliases
-labels_alike : (trees : Trees Op) → AreNamesFor (fold_all op_label trees) (fold_all op_label (all_pruned false trees))
-labels_alike no_more = tt
-labels_alike (more tree trees) = (core_label tree, labels_alike trees)
+labels_alike : (write : Bool) (trees : Trees Op) → AreNamesFor (fold_all op_label trees) (fold_all op_label (all_pruned false write trees))
+labels_alike write no_more = tt
+labels_alike write (more tree trees) = (pruned_label write tree, labels_alike write trees)
 
 not_both : false ≡ true → ⊥
 not_both h = cc
@@ -99,22 +99,23 @@ function_names _ true labels children h alike below = absurd (not_both (h refl))
 function_names _ false labels children h alike below = (alike, below)
 
 mutual
-  core_names : (tree : Expression) → HasNone tree → NamesOperands (core tree)
-  core_names (node (AliasOp name) (more tree no_more)) h = core_names tree h.1.0
-  core_names (node (FunctionOp function []) children) h =
-      function_names function (is_written_out (FunctionOp function []) (tree_count children)) (fold_all op_label children) (all_pruned false children) (horizontal_alone function (tree_count children)) (labels_alike children) (all_core_names children h.1)
-  core_names (node (FunctionOp function (label ∷ recorded)) children) h = absurd h.0
-  core_names (node op children) h = (tt, all_core_names children h.1)
+  pruned_names : (write : Bool) (tree : Expression) → HasNone tree → NamesOperands (pruned false write tree)
+  pruned_names write (node (AliasOp name) (more tree no_more)) h = pruned_names write tree h.1.0
+  pruned_names write (node (FunctionOp function []) children) h =
+      function_names function (is_written_out write (FunctionOp function []) (tree_count children)) (fold_all op_label children) (all_pruned false write children)
+      (horizontal_alone write function (tree_count children)) (labels_alike write children) (all_pruned_names write children h.1)
+  pruned_names write (node (FunctionOp function (label ∷ recorded)) children) h = absurd h.0
+  pruned_names write (node op children) h = (tt, all_pruned_names write children h.1)
 
-  all_core_names : (trees : Trees Op) → AllHaveNone trees → AllNameOperands (all_pruned false trees)
-  all_core_names no_more h = tt
-  all_core_names (more tree trees) h = (core_names tree h.0, all_core_names trees h.1)
+  all_pruned_names : (write : Bool) (trees : Trees Op) → AllHaveNone trees → AllNameOperands (all_pruned false write trees)
+  all_pruned_names write no_more h = tt
+  all_pruned_names write (more tree trees) h = (pruned_names write tree h.0, all_pruned_names write trees h.1)
 
 -- a number at the top that gets a type changes none of them
 settled_names : (tree : Expression) → NamesOperands tree → NamesOperands (settled tree)
 settled_names (node (AliasOp name) (more tree no_more)) h = (tt, (settled_names tree h.1.0, tt))
 settled_names (node op children) h = h
 
--- so a query's expression names its functions' operands, as a plan takes it
-pub plan_names : (expr : Expr) → NamesOperands (settled (core (plain_tree expr)))
-plan_names expr = settled_names (core (plain_tree expr)) (core_names (plain_tree expr) (expr_none expr))
+-- so a query's expression names its functions' operands, as a lowered plan takes it
+pub plan_names : (expr : Expr) → NamesOperands (settled (spelled (plain_tree expr)))
+plan_names expr = settled_names (spelled (plain_tree expr)) (pruned_names true (plain_tree expr) (expr_none expr))

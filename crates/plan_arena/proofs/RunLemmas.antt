@@ -27,12 +27,12 @@ evaluated_as registry schema output gives = record { name = output.label.name; t
 module _ (registry : Registry) where
   -- strict expressions give what they mean
   pub strict_agree : (schema : Columns) (outputs : List (Named Expression)) → AllByRecursion (λ output. IsStrictCore registry schema output.expression) outputs → AgreeOn schema (by_running registry) (by_meaning registry) outputs outputs
-  strict_agree schema [] strict rows = refl
-  strict_agree schema (output ∷ outputs) strict rows =
+  strict_agree schema [] strict rows is = refl
+  strict_agree schema (output ∷ outputs) strict rows is =
       let frame : Frame = record { schema = schema; rows = rows } in
       ap (λ gives. evaluated_as registry schema output gives ∷ map (by_running registry frame) outputs) (strict_is_meaning registry frame output.expression strict.0.0 strict.0.1)
       ∙ ap (λ tree. record { name = output.label.name; typing = typing registry schema tree; gives = meaning registry frame tree } ∷ map (by_running registry frame) outputs) (sym (strict_settled registry schema output.expression strict.0.1))
-      ∙ ap (λ rest. by_meaning registry frame output ∷ rest) (strict_agree schema outputs strict.1 rows)
+      ∙ ap (λ rest. by_meaning registry frame output ∷ rest) (strict_agree schema outputs strict.1 rows is)
 
   -- the only outcome is that of an input with a schema
   only_input : (schemas : List (Option Columns)) (o : Outcome Frame) → AllMeet schemas (o ∷ []) → (schema : Option Columns) × (schemas ≡ schema ∷ []) × MeetsWhere schema o
@@ -43,7 +43,7 @@ module _ (registry : Registry) where
   select_runs : (outputs : List (Named Expression)) (schema : Option Columns) (o : Outcome Frame) → AreStrictOver registry schema outputs → MeetsWhere schema o → selected (by_running registry) outputs o ≡ selected (by_meaning registry) outputs o
   select_runs outputs None o strict meets = absurd meets
   select_runs outputs (Some schema) o strict meets =
-      selected_agrees (by_running registry) (by_meaning registry) outputs outputs schema o (strict_agree schema outputs strict) meets
+      selected_agrees (by_running registry) (by_meaning registry) outputs outputs schema o refl (strict_agree schema outputs strict) meets
 
   hstack_runs : (outputs : List (Named Expression)) (schema : Option Columns) (o : Outcome Frame) → AreStrictOver registry schema outputs → MeetsWhere schema o → hstacked (by_running registry) outputs o ≡ hstacked (by_meaning registry) outputs o
   hstack_runs outputs None o strict meets = absurd meets
