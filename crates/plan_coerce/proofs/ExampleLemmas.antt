@@ -1,5 +1,5 @@
 -- What the examples share.
-use Rattle.std.proofs.Common.{◌≡◌, ◌<◌, ◌≤◌, ℕ, ℤ, zero, suc, List, [], ◌∷◌, ◌++◌, length, map, slice_get, codes, pos, true, false, Some, Result, Ok, Err, refl, sym, subst, ap, ◌∙◌, arith, inl, inr, ⊎_elim}
+use Rattle.std.proofs.Common.{◌≡◌, ◌<◌, ◌≤◌, ℕ, ℤ, zero, suc, List, [], ◌∷◌, ◌++◌, length, map, slice_get, codes, pos, true, false, None, Some, Result, Ok, Err, refl, sym, subst, ap, ◌∙◌, arith, inl, inr, ⊎_elim}
 use Rattle.std.specs.List.{AllByRecursion}
 use Rattle.std.proofs.lemmas.Bool.{false≢true}
 use Rattle.plan_types.specs.Schemas.{Columns, columns, same_name}
@@ -22,20 +22,22 @@ use Rattle.plan_dsl.proofs.TypingLemmas.{ok_same}
 use Rattle.plan_dsl.specs.declared.literal.LiteralValue.TheVariants.{Int}
 use Rattle.plan_arena.specs.declared.aexpr.AExpr.{AExpr}
 use Rattle.plan_arena.specs.declared.aexpr.AExpr.TheVariants.{Literal}
-use Rattle.plan_arena.specs.Denotation.{Denotes}
+use Rattle.plan_arena.specs.Denotation.{Denotes, DenoteAll}
 use Rattle.plan_arena.specs.declared.ir.IR.{IR}
 use Rattle.plan_arena.specs.declared.ir.IR.TheVariants.{DataFrameScan}
 use Rattle.plan_arena.specs.Layers.{layer, shape_of}
-use Rattle.plan_arena.specs.PlanSchemas.{schema_into}
+use Rattle.plan_arena.specs.RecordedSchemas.{schema_recorded}
 use Rattle.plan_arena.specs.Runs.{AllAccepted}
 use Rattle.plan_arena.specs.Items.{HoldsExpression, HoldsPlan, expression_layer, plan_layer}
 use Rattle.plan_arena.proofs.DenotationLemmas.{denotes_one, some_same}
 use Rattle.plan_arena.proofs.ItemLemmas.{expression_laws, layer_inputs, plan_got, plan_laws, within}
 use Rattle.plan_coerce.specs.Optimizer.{AreRoots, DenotesLike, IsNumberRoot, IsTypedRoot}
 use Rattle.plan_coerce.specs.Reaching.{Among, AreOnce, HasNodes, HaveNodes, Near, ReachedBy}
-use Rattle.plan_coerce.specs.Rules.{IsSettledPlan, HasAcceptedInputs, HasSameCasts, IsReplacement, IsSameOnFrames, SettlesNoNumber, StandsOver, has_truth, is_strict_node, said, until_strict}
-use Rattle.plan_coerce.specs.Samples.{wide, cast_of, strict_items, strict_sum, equal_items, filter_by, filters, scan_and, IsSumFound, IsSumPlaced}
+use Rattle.plan_coerce.specs.Rules.{IsSettledPlan, HasAcceptedInputs, HasSameCasts, IsPlanNode, IsReplacement, IsSameOnFrames, SettlesNoNumber, StandsOver, has_truth, is_strict_node, said, until_strict}
+use Rattle.plan_coerce.specs.Samples.{named_twice, wide, cast_of, strict_items, strict_sum, equal_items, filter_by, filters, scan_and, IsSumFound, IsSumPlaced}
+use Rattle.plan_coerce.specs.Unchecked.{GoesInto, HasUncheckedSchema, KeepsOtherRules, unchecked_schema}
 use Rattle.plan_coerce.proofs.SettledLemmas.{settles_no_number}
+use Rattle.plan_coerce.proofs.UncheckedLemmas.{schema_recorded_is}
 use Rattle.plan_infer.specs.Typed.{HasKnownType}
 use Rattle.plan_infer.specs.Samples.{int32, two_columns, of_type, a, b, five, binary, sum, pair, columns_and, sum_items, a_items}
 
@@ -192,16 +194,27 @@ sum_once = (
 
 -- ---- plans' nodes
 
-pub scan_at : (plans : List IR) (n : ℕ) (schema : Schema) → slice_get plans n ≡ Some (DataFrameScan (Some 0) schema) → columns schema ≡ two_columns → Denotes (HoldsPlan equal_items plans) n (scan_of 0 two_columns)
-scan_at plans n schema got is = (
+-- a scan, with any arena of expressions
+pub scan_with : (items : List AExpr) (plans : List IR) (n : ℕ) (schema : Schema) (own : Columns) → slice_get plans n ≡ Some (DataFrameScan (Some 0) schema) → columns schema ≡ own → Denotes (HoldsPlan items plans) n (scan_of 0 own)
+scan_with items plans n schema own got is = (
   [],
   record {
-    flat = scan_op (Some 0) two_columns;
+    flat = scan_op (Some 0) own;
     item = plan_got plans n (DataFrameScan (Some 0) schema) got ∙ ap (λ s. Some (layer (scan_op (Some 0) s) [])) is;
     denotes = record { same_recorded = refl; kind = refl };
   },
   tt,
 )
+
+pub scan_at : (plans : List IR) (n : ℕ) (schema : Schema) → slice_get plans n ≡ Some (DataFrameScan (Some 0) schema) → columns schema ≡ two_columns → Denotes (HoldsPlan equal_items plans) n (scan_of 0 two_columns)
+scan_at plans n schema = scan_with equal_items plans n schema two_columns
+
+-- one of columns of one name has no schema
+pub scan_refused : (plans : List IR) (n : ℕ) (schema : Schema) → slice_get plans n ≡ Some (DataFrameScan (Some 0) schema) → columns schema ≡ named_twice → (s : Columns) → HasUncheckedSchema [] plans n s → ⊥
+scan_refused plans n schema got is s h =
+    let same = denotes_one (shape_of (map plan_layer plans)) (HoldsPlan h.expressions plans) (plan_laws h.expressions plans) n h.plan (scan_of 0 named_twice) h.denotes (scan_with h.expressions plans n schema named_twice got is) in
+    let none : None ≡ Some s = subst (λ t. unchecked_schema [] t ≡ Some s) same h.is in
+    cc
 
 pub scan_denotes : (schema : Schema) (behind : List IR) → columns schema ≡ two_columns → Denotes (HoldsPlan equal_items (scan_and schema behind)) 0 (scan_of 0 two_columns)
 scan_denotes schema behind is = scan_at (scan_and schema behind) 0 schema refl is
@@ -239,6 +252,41 @@ module _ (schema : Schema) (is : columns schema ≡ two_columns) where
 pub scan_accepted : AllAccepted [] (more (scan_of 0 two_columns) no_more)
 scan_accepted = ((refl, tt), tt)
 
+-- nodes without inputs and over one, and what is recorded of an input
+no_input : (plans : List IR) (own : Columns) (ns : List ℕ) → DenoteAll (HoldsPlan equal_items plans) ns no_more → AllByRecursion (λ n. (schema : Columns) × HasUncheckedSchema [] plans n schema) ns × GoesInto [] plans (ScanKind (Some 0) own) ns own
+no_input plans own [] d = (tt, refl)
+no_input plans own (n ∷ ns) d = absurd d
+
+one_input : (plans : List IR) (predicate : Named Expression) (t : Plan) (schema : Columns) → KeepsOtherRules [] t → unchecked_schema [] t ≡ Some schema → (ns : List ℕ) → DenoteAll (HoldsPlan equal_items plans) ns (more t no_more) → AllByRecursion (λ n. (own : Columns) × HasUncheckedSchema [] plans n own) ns × GoesInto [] plans (FilterKind predicate) ns schema
+one_input plans predicate t schema keeps is [] d = absurd d
+one_input plans predicate t schema keeps is (n ∷ []) d =
+    let has : HasUncheckedSchema [] plans n schema = record { expressions = equal_items; plan = t; denotes = d.0; keeps = keeps; is = is } in
+    (((schema, has), tt), has)
+one_input plans predicate t schema keeps is (n ∷ m ∷ ns) d = absurd d.1
+
+-- a scan, and a filter over a plan that keeps the other rules
+module _ (plans : List IR) (n : ℕ) (own : Columns) (d : Denotes (HoldsPlan equal_items plans) n (scan_of 0 own)) where
+  pub scan_node : IsPlanNode [] equal_items plans n (scan_op (Some 0) own) no_more
+  scan_node = record { denotes = d; each = (no_input plans own d.0 d.2).0 }
+
+  pub scan_stands : StandsOver [] equal_items plans n (ScanKind (Some 0) own) own
+  scan_stands =
+      let over = no_input plans own d.0 d.2 in
+      record { op = scan_op (Some 0) own; inputs = no_more; is = record { denotes = d; each = over.0 }; of_kind = refl; into = over.1 }
+
+module _ (plans : List IR) (n : ℕ) (predicate : Expression) (t : Plan) (schema : Columns) (keeps : KeepsOtherRules [] t) (is : unchecked_schema [] t ≡ Some schema) (d : Denotes (HoldsPlan equal_items plans) n (keep predicate t)) where
+  pub keep_node : IsPlanNode [] equal_items plans n (filter_op (named predicate)) (more t no_more)
+  keep_node = record { denotes = d; each = (one_input plans (named predicate) t schema keeps is d.0 d.2).0 }
+
+  pub keep_stands : StandsOver [] equal_items plans n (FilterKind (named predicate)) schema
+  keep_stands =
+      let over = one_input plans (named predicate) t schema keeps is d.0 d.2 in
+      record { op = filter_op (named predicate); inputs = more t no_more; is = record { denotes = d; each = over.0 }; of_kind = refl; into = over.1 }
+
+into_recorded : (plans : List IR) (kind : PlanKind (Named Expression)) (over : Columns) (first : Plan) (ns : List ℕ) → DenoteAll (HoldsPlan equal_items plans) ns (more first no_more) → GoesInto [] plans kind ns over → schema_recorded first ≡ Some over
+into_recorded plans kind over first [] d into = absurd d
+into_recorded plans kind over first (n ∷ ns) d into = schema_recorded_is [] plans n over into equal_items first d.0
+
 -- a node is of one kind, over one schema
 module _ (plans : List IR) (n : ℕ) (op : PlanOp (Named Expression)) (inputs : Trees (PlanOp (Named Expression))) (d : Denotes (HoldsPlan equal_items plans) n (node op inputs)) where
   pub one_plan : (t : Plan) → Denotes (HoldsPlan equal_items plans) n t → t ≡ node op inputs
@@ -253,12 +301,14 @@ module _ (plans : List IR) (n : ℕ) (op : PlanOp (Named Expression)) (inputs : 
   pub one_kind : (kind : PlanKind (Named Expression)) (over : Columns) → StandsOver [] equal_items plans n kind over → kind ≡ op.kind
   one_kind kind over s = sym s.of_kind ∙ ap (λ (o : PlanOp (Named Expression)). o.kind) (op_same s.op s.inputs (one_plan (node s.op s.inputs) s.is.denotes))
 
-  pub one_schema : (kind : PlanKind (Named Expression)) (over : Columns) → StandsOver [] equal_items plans n kind over → schema_into [] op.kind inputs ≡ Some over
-  one_schema kind over s =
-      ap (λ k. schema_into [] k inputs) (sym (one_kind kind over s)) ∙ ap (schema_into [] kind) (sym (inputs_same s.op s.inputs (one_plan (node s.op s.inputs) s.is.denotes))) ∙ s.into
+  -- what goes into it is recorded of its first input
+  pub first_recorded : (kind : PlanKind (Named Expression)) (over : Columns) → StandsOver [] equal_items plans n kind over → (first : Plan) → inputs ≡ more first no_more → schema_recorded first ≡ Some over
+  first_recorded kind over s first is =
+      let d = s.is.denotes in
+      into_recorded plans kind over first d.0 (subst (DenoteAll (HoldsPlan equal_items plans) d.0) (inputs_same s.op s.inputs (one_plan (node s.op s.inputs) d) ∙ is) d.2) s.into
 
   pub inputs_accepted : HasAcceptedInputs [] equal_items plans n → AllAccepted [] inputs
-  inputs_accepted h = subst (AllAccepted []) (inputs_same h.op h.inputs (one_plan (node h.op h.inputs) h.is.denotes)) h.is.accepted
+  inputs_accepted h = subst (AllAccepted []) (inputs_same h.op h.inputs (one_plan (node h.op h.inputs) h.denotes)) h.accepted
 
 pub no_filter : (predicate : Named Expression) → FilterKind predicate ≡ ScanKind (Some 0) two_columns → ⊥
 no_filter predicate e = cc
@@ -268,20 +318,17 @@ some_same_columns s t e = cc
 
 -- a filter over the scan: what stands there is it
 module _ (plans : List IR) (n : ℕ) (predicate : Expression) (d : Denotes (HoldsPlan equal_items plans) n (keep predicate (scan_of 0 two_columns))) where
+  pub over_scan : IsPlanNode [] equal_items plans n (filter_op (named predicate)) (more (scan_of 0 two_columns) no_more)
+  over_scan = keep_node plans n predicate (scan_of 0 two_columns) two_columns (refl, tt) refl d
+
   pub filter_stands : StandsOver [] equal_items plans n (FilterKind (named predicate)) two_columns
-  filter_stands = record {
-    op = filter_op (named predicate);
-    inputs = more (scan_of 0 two_columns) no_more;
-    is = record { denotes = d; accepted = scan_accepted };
-    of_kind = refl;
-    into = refl;
-  }
+  filter_stands = keep_stands plans n predicate (scan_of 0 two_columns) two_columns (refl, tt) refl d
 
   pub filter_kind : (kind : PlanKind (Named Expression)) (over : Columns) → StandsOver [] equal_items plans n kind over → kind ≡ FilterKind (named predicate)
   filter_kind kind over s = one_kind plans n (filter_op (named predicate)) (more (scan_of 0 two_columns) no_more) d kind over s
 
   pub filter_over : (kind : PlanKind (Named Expression)) (over : Columns) → StandsOver [] equal_items plans n kind over → over ≡ two_columns
-  filter_over kind over s = some_same_columns two_columns over (one_schema plans n (filter_op (named predicate)) (more (scan_of 0 two_columns) no_more) d kind over s)
+  filter_over kind over s = some_same_columns two_columns over (first_recorded plans n (filter_op (named predicate)) (more (scan_of 0 two_columns) no_more) d kind over s (scan_of 0 two_columns) refl)
 
 pub truth_settled : (schema : Schema) → columns schema ≡ two_columns → IsSettledPlan has_truth [] equal_items (filters schema) 1
 truth_settled schema is kind over s =

@@ -23,5 +23,6 @@ pub mod ToldLemmas
 pub mod TurnLemmas
 pub mod TypedNodeLemmas
 pub mod TypedRootLemmas
+pub mod UncheckedLemmas
 pub mod UntoldLemmas
 pub mod WrittenOutLemmas

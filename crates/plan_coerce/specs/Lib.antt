@@ -9,3 +9,4 @@ pub mod RuleLaws
 pub mod Rules
 pub mod Samples
 pub mod Turns
+pub mod Unchecked

@@ -2,7 +2,8 @@
 -- What a rule says of a node goes by the expression that it denotes. Where it goes by what the node does and by what is
 -- seen of its inputs alone, their names and typings, it stays so where inputs are put in place by others that are like them.
 -- What is said of a plan's node goes by the node's kind, and by the schema that goes into it.
-use Rattle.std.specs.Prelude.{◌≡◌, ◌<◌, ◌≤◌, ℕ, ℤ, Bool, true, false, List, [], ◌∷◌, length, set, Some, Result, Ok, Err, if◌then◌else◌}
+use Rattle.std.specs.Prelude.{◌≡◌, ◌<◌, ◌≤◌, ℕ, ℤ, Bool, true, false, List, [], ◌∷◌, length, set, Result, Ok, Err, if◌then◌else◌}
+use Rattle.std.specs.List.{AllByRecursion}
 use Rattle.plan_types.specs.Frames.{IsFrame, Row}
 use Rattle.plan_types.specs.Types.{Untyped, is_known, is_truth}
 use Rattle.plan_types.specs.Schemas.{Columns}
@@ -22,13 +23,13 @@ use Rattle.plan_arena.specs.declared.aexpr.AExpr.{AExpr}
 use Rattle.plan_arena.specs.declared.ir.IR.{IR}
 use Rattle.plan_arena.specs.Denotation.{Denotes}
 use Rattle.plan_arena.specs.Items.{HoldsExpression, HoldsPlan}
-use Rattle.plan_arena.specs.PlanSchemas.{schema_into}
 use Rattle.plan_arena.specs.Runs.{AllAccepted}
 use Rattle.plan_infer.specs.declared.type_table.Inferred.{Inferred}
 use Rattle.plan_infer.specs.declared.type_table.TypeTable.{TypeTable}
 use Rattle.plan_infer.specs.KeptTypes.{IsRight, KeepsEntry, typed_of}
 use Rattle.plan_coerce.specs.Coercion.{coerced}
 use Rattle.plan_coerce.specs.Reaching.{IsClosed, IsReached, StaysOnce}
+use Rattle.plan_coerce.specs.Unchecked.{GoesInto, HasUncheckedSchema}
 
 -- ---- nodes of expressions
 
@@ -121,12 +122,12 @@ pub record CanReplace (old new : List AExpr) (table table' : TypeTable) (at : �
 
 -- ---- nodes of plans
 
--- the node is a plan's, and its inputs are accepted
+-- the node is a plan's, and each of its inputs keeps every rule, with some arena of expressions, that on a predicate's type aside
 pub record IsPlanNode (registry : Registry) (expressions : List AExpr) (plans : List IR) (n : ℕ) (op : PlanOp (Named Expression)) (inputs : Trees (PlanOp (Named Expression))) : Type 0 where
   pub denotes : Denotes (HoldsPlan expressions plans) n (node op inputs)
-  pub accepted : AllAccepted registry inputs
+  pub each : AllByRecursion (λ m. (schema : Columns) × HasUncheckedSchema registry plans m schema) denotes.0
 
-pub record HasAcceptedInputs (registry : Registry) (expressions : List AExpr) (plans : List IR) (n : ℕ) : Type 0 where
+pub record HasUncheckedInputs (registry : Registry) (expressions : List AExpr) (plans : List IR) (n : ℕ) : Type 0 where
   pub op : PlanOp (Named Expression)
   pub inputs : Trees (PlanOp (Named Expression))
   pub is : IsPlanNode registry expressions plans n op inputs
@@ -137,7 +138,14 @@ pub record StandsOver (registry : Registry) (expressions : List AExpr) (plans : 
   pub inputs : Trees (PlanOp (Named Expression))
   pub is : IsPlanNode registry expressions plans n op inputs
   pub of_kind : op.kind ≡ kind
-  pub into : schema_into registry kind inputs ≡ Some schema
+  pub into : GoesInto registry plans kind is.denotes.0 schema
+
+-- the node is a plan's, and its inputs are accepted
+pub record HasAcceptedInputs (registry : Registry) (expressions : List AExpr) (plans : List IR) (n : ℕ) : Type 0 where
+  pub op : PlanOp (Named Expression)
+  pub inputs : Trees (PlanOp (Named Expression))
+  pub denotes : Denotes (HoldsPlan expressions plans) n (node op inputs)
+  pub accepted : AllAccepted registry inputs
 
 -- the plan's node is settled
 abbrev pub IsSettledPlan : (Registry → Columns → PlanKind (Named Expression) → Bool) → Registry → List AExpr → List IR → ℕ → Type 0
@@ -154,10 +162,11 @@ abbrev pub RefusesPredicate : (Result Typed ErrorKind → Type 0) → Type 0 →
 RefusesPredicate refused other registry schema (FilterKind predicate) = refused (truth_of (typing registry schema predicate.expression))
 RefusesPredicate refused other registry schema kind = other
 
--- What is put in place of a plan's node: the arena with it denotes a plan there, over accepted inputs. Where it is a filter
--- the node was one, over an input of the same schema.
+-- What is put in place of a plan's node: the arena with it denotes a plan there, over such inputs, which are accepted where
+-- they were. Where it is a filter the node was one, over an input of the same schema.
 pub record IsPlanReplacement (registry : Registry) (expressions : List AExpr) (old new : List IR) (n : ℕ) : Type 0 where
-  pub accepted : HasAcceptedInputs registry expressions new n
+  pub over : HasUncheckedInputs registry expressions new n
+  pub accepted : HasAcceptedInputs registry expressions old n → HasAcceptedInputs registry expressions new n
   pub filter : (predicate : Named Expression) (schema : Columns) → StandsOver registry expressions new n (FilterKind predicate) schema → (before : Named Expression) × StandsOver registry expressions old n (FilterKind before) schema
 
 -- whether there is a typing

@@ -11,7 +11,7 @@ ghost use Rattle.plan_arena.specs.Denotation.{Denotes, DenotesTree};
 ghost use Rattle.plan_arena.specs.Items.{Grows, HoldsExpression};
 ghost use Rattle.plan_infer.specs.KeptTypes.{IsRight};
 ghost use Rattle.plan_coerce.specs.Reaching.{IsClosed, StaysOnce};
-ghost use Rattle.plan_coerce.specs.Rules.{HasAcceptedInputs, IsCongruent, IsPlanReplacement, IsReplacement, IsSettledPlan, IsSteady, IsTransitive, KeepsNumber, RefusesPredicate, SettlesNoNumber, StandsOver};
+ghost use Rattle.plan_coerce.specs.Rules.{HasUncheckedInputs, IsCongruent, IsPlanReplacement, IsReplacement, IsSettledPlan, IsSteady, IsTransitive, KeepsNumber, RefusesPredicate, SettlesNoNumber, StandsOver};
 
 use plan_arena::aexpr::AExpr;
 use plan_arena::arena::{Arena, Node};
@@ -54,7 +54,7 @@ pub trait OptimizationRule {
         types: &mut TypeTable,
         typings: &mut Steps<M>,
     ) -> Result<Option<IR>, PlanError>
-        requires inputs { HasAcceptedInputs (registry udfs.now) expr_arena.now lp_arena.now node.0 }
+        requires inputs { HasUncheckedInputs (registry udfs.now) expr_arena.now lp_arena.now node.0 }
         requires right { (predicate : Named Expression) (schema : Columns) → StandsOver (registry udfs.now) expr_arena.now lp_arena.now node.0 (FilterKind predicate) schema →
             IsRight (registry udfs.now) schema expr_arena.now types.old }
         ensures answer { IfOk result (λ answer. MatchOption answer

@@ -13,7 +13,7 @@ ghost use Rattle.plan_arena.specs.Layers.{inputs_of};
 ghost use Rattle.plan_infer.specs.KeptTypes.{IsRight};
 ghost use Rattle.plan_coerce.specs.Optimizer.{AreApart, AreRoots, AreTrees, AreTypedRoots, DenotesSettled, EndsSettled, HasTyping, IsCoercionRefusal, IsPlanTurn, ReachesNear, StaysApart, StaysFinite, StaysLike, StaysLikeBeside, StaysLikeTyped, StaysOver, TypesNumber, all_with_inputs, roots_of, stacked, with_inputs};
 ghost use Rattle.plan_coerce.specs.Reaching.{Among};
-ghost use Rattle.plan_coerce.specs.Rules.{HasAcceptedInputs, KeepsNumber, RefusesPredicate, SettlesNoNumber, StandsOver};
+ghost use Rattle.plan_coerce.specs.Rules.{HasUncheckedInputs, KeepsNumber, RefusesPredicate, SettlesNoNumber, StandsOver};
 ghost use Rattle.plan_coerce.specs.Turns.{IsStopped, IsTurn};
 
 use crate::coercion_rule::infer_once;
@@ -224,7 +224,7 @@ impl ConversionOptimizer {
         typings: &mut Steps<M>,
         steps: &mut Steps<L>,
     ) -> Result<(), PlanError>
-        requires inputs { HasAcceptedInputs (registry udfs.now) expr_arena.old lp_arena.old node.0 }
+        requires inputs { HasUncheckedInputs (registry udfs.now) expr_arena.old lp_arena.old node.0 }
         requires over { StaysOver (registry udfs.now) expr_arena.old lp_arena.old node.0 (columns schema.now) }
         requires trees { AreTrees expr_arena.old (roots_of self.old) }
         requires right { IsRight (registry udfs.now) (columns schema.now) expr_arena.old types.old }
@@ -279,7 +279,7 @@ fn place_plan<R: OptimizationRule, M: Ledger>(
     types: &mut TypeTable,
     typings: &mut Steps<M>,
 ) -> Result<(), PlanError>
-    requires inputs { HasAcceptedInputs (registry udfs.now) expr_arena.now lp_arena.old node.0 }
+    requires inputs { HasUncheckedInputs (registry udfs.now) expr_arena.now lp_arena.old node.0 }
     requires right { (predicate : Named Expression) (schema : Columns) → StandsOver (registry udfs.now) expr_arena.now lp_arena.old node.0 (FilterKind predicate) schema →
         IsRight (registry udfs.now) schema expr_arena.now types.old }
     ensures plans { (n : ℕ) → n ≢ node.0 → slice_get lp_arena.new n ≡ slice_get lp_arena.old n }

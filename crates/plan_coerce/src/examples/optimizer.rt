@@ -1,30 +1,34 @@
 //! Coercion by any rule: what is stacked, what is settled, and what becomes of two arenas.
 
-ghost use Rattle.std.specs.Prelude.{◌≡◌, [], ◌∷◌, pos, codes, true, false, Some, None, Err};
+ghost use Rattle.std.specs.Prelude.{◌≡◌, ℕ, List, [], ◌∷◌, pos, codes, true, false, Some, None, Err};
 ghost use Rattle.plan_types.specs.Types.{Untyped};
 ghost use Rattle.plan_types.specs.Errors.{no_memory, at_top};
 ghost use Rattle.plan_types.specs.declared.dtype.DataType.TheVariants as dtype;
 ghost use Rattle.plan_types.specs.declared.dtype.UnknownKind.TheVariants.{Int as Number};
 ghost use Rattle.plan_types.specs.declared.schema.Schema.{Schema};
 ghost use Rattle.plan_types.specs.declared.error.ErrorKind.TheVariants.{ColumnNotFound, InvalidOperation};
-ghost use Rattle.plan_dsl.specs.Plans.{named, filter_op, scan_op, FilterKind, ScanKind, SelectKind};
-ghost use Rattle.plan_dsl.specs.Samples.{scan_of, way};
+ghost use Rattle.plan_dsl.specs.PlanRules.{schema_of};
+ghost use Rattle.plan_dsl.specs.Plans.{named, filter_op, scan_op, select_op, FilterKind, ScanKind, SelectKind};
+ghost use Rattle.plan_dsl.specs.Registry.{Registry};
+ghost use Rattle.plan_dsl.specs.Samples.{keep, scan_of, way};
 ghost use Rattle.plan_dsl.specs.Strictness.{is_strict};
-ghost use Rattle.plan_dsl.specs.Trees.{no_more, more};
+ghost use Rattle.plan_dsl.specs.Trees.{node, no_more, more};
 ghost use Rattle.plan_dsl.specs.declared.literal.LiteralValue.TheVariants.{Int, Int8, Int32};
 ghost use Rattle.plan_dsl.specs.declared.window.WindowType.TheVariants.{GroupsToRows};
 ghost use Rattle.plan_dsl.specs.declared.operator.Operator.TheVariants.{Eq, Minus, Plus};
 ghost use Rattle.plan_arena.specs.declared.aexpr.AExpr.{AExpr};
 ghost use Rattle.plan_arena.specs.declared.aexpr.AExpr.TheVariants.{Column, Literal, Window};
 ghost use Rattle.plan_arena.specs.declared.inputs.NodeList.{NodeList};
+ghost use Rattle.plan_arena.specs.declared.ir.IR.{IR};
 ghost use Rattle.plan_arena.specs.declared.ir.IR.TheVariants.{DataFrameScan};
 ghost use Rattle.plan_infer.specs.declared.type_table.TypeTable.{TypeTable};
 ghost use Rattle.plan_infer.specs.Samples.{int8, int32, two_columns, a, b, five, binary, cast_to, sum, pair, columns_and, sum_items, a_items, at, refused, ForEntry, ForTable};
 ghost use Rattle.plan_coerce.specs.Coercion.{AllReady, AllStrictFrom, AreChanged, IsChanged, IsOver, IsOverOperands, IsReady, IsReadyAt, KeepsStrict, TakesOperands};
 ghost use Rattle.plan_coerce.specs.Optimizer.{AreApart, AreRoots, AreSettled, AreTrees, AreTypedRoots, DenotesSettled, EndsSettled, EndsTyped, HasTyping, IsCoercionRefusal, IsNumberRoot, IsPlanTurn, IsSettled, IsTypedRoot, LeadsToNoNumber, ReachesNear, StaysApart, StaysFinite, StaysLikeBeside, StaysLikeTyped, StaysOver, TypesNumber, all_with_inputs, with_inputs};
 ghost use Rattle.plan_coerce.specs.Reaching.{AreMadeOnce, HasNewNodes, IsClosed, IsMadeOnce, IsPutOnce, StaysOnce};
-ghost use Rattle.plan_coerce.specs.Rules.{IsSettledPlan, HasAcceptedInputs, HasSameCasts, IsCongruent, IsLike, IsPlanNode, IsPlanReplacement, IsReplacement, IsSteady, KeepsNumber, RefusesPredicate, StandsOver, has_truth, is_strict_node, said, until_strict};
-ghost use Rattle.plan_coerce.specs.Samples.{cast_of, strict_items, strict_sum, equal_items, filter_by, scan_and, filters, ForSchema, IsSumFound, IsSumPlaced, IsSumStopped, IsSumTurn};
+ghost use Rattle.plan_coerce.specs.Rules.{IsSettledPlan, HasAcceptedInputs, HasSameCasts, HasUncheckedInputs, IsCongruent, IsLike, IsPlanNode, IsPlanReplacement, IsReplacement, IsSteady, KeepsNumber, RefusesPredicate, StandsOver, has_truth, is_strict_node, said, until_strict};
+ghost use Rattle.plan_coerce.specs.Unchecked.{KeepsOtherRules, unchecked_kinds, unchecked_schema};
+ghost use Rattle.plan_coerce.specs.Samples.{named_twice, cast_of, strict_items, strict_sum, equal_items, filter_by, scan_and, filters, ForSchema, IsSumFound, IsSumPlaced, IsSumStopped, IsSumTurn};
 
 /// A node stands before its inputs, the last of them first; of a window the last is what its rows are ordered by. A number
 /// that is no node's has none. A list may begin with another.
@@ -198,16 +202,38 @@ pub fn entries_of_strict_nodes()
     ensures no_number_kept { ForTable 2 (None ∷ []) (λ table. ¬ (KeepsNumber table 2)) }
 {}
 
-/// A plan's node stands over the schema of its input, which is accepted. Nothing is asked of the node itself.
-pub fn plan_nodes_over_accepted_inputs()
+/// A filter whose predicate is no truth value counts as giving its input's schema. Every other rule is kept, and a schema
+/// that is recorded is the one that the node has.
+pub fn plans_with_unchecked_predicates()
+    ensures number { unchecked_schema [] (keep a (scan_of 0 two_columns)) ≡ Some two_columns }
+    ensures checked { schema_of [] (keep a (scan_of 0 two_columns)) ≡ None }
+    ensures above { unchecked_schema [] (keep (binary Eq a b) (keep a (scan_of 0 two_columns))) ≡ Some two_columns }
+    ensures no_such_column { unchecked_schema [] (keep a (scan_of 0 [])) ≡ None }
+    ensures named_twice { unchecked_schema [] (keep a (scan_of 0 named_twice)) ≡ None }
+    ensures kinds { unchecked_kinds [] (filter_op (named a)) (Some two_columns ∷ []) ≡ [] }
+    ensures other_kinds { unchecked_kinds [] (filter_op (named a)) (Some [] ∷ []) ≡ ColumnNotFound ∷ [] }
+    ensures keeps { KeepsOtherRules [] (keep (binary Eq a b) (keep a (scan_of 0 two_columns))) }
+    ensures breaks_another { ¬ (KeepsOtherRules [] (keep a (scan_of 0 []))) }
+    ensures below { ¬ (KeepsOtherRules [] (keep a (scan_of 0 named_twice))) }
+    ensures recorded { KeepsOtherRules [] (node (select_op (named a ∷ []) (Some ((codes "a", int8) ∷ []))) (more (keep a (scan_of 0 two_columns)) no_more)) }
+    ensures other_record { ¬ (KeepsOtherRules [] (node (select_op (named a ∷ []) (Some two_columns)) (more (keep a (scan_of 0 two_columns)) no_more))) }
+{}
+
+/// A plan's node stands over the schema of its input, which keeps every rule, that on a predicate's type aside. Nothing is
+/// asked of the node itself. Accepted inputs are such.
+pub fn plan_nodes_over_inputs()
     ensures scan { ForSchema two_columns (λ schema. IsPlanNode [] equal_items (filters schema) 0 (scan_op (Some 0) two_columns) no_more) }
     ensures filter { ForSchema two_columns (λ schema. IsPlanNode [] equal_items (filters schema) 1 (filter_op (named (binary Eq a b))) (more (scan_of 0 two_columns) no_more)) }
     ensures other_predicate { ForSchema two_columns (λ schema. ¬ (IsPlanNode [] equal_items (filters schema) 1 (filter_op (named a)) (more (scan_of 0 two_columns) no_more))) }
     ensures accepted_input { ForSchema two_columns (λ schema. HasAcceptedInputs [] equal_items (filters schema) 2) }
     ensures refused_input { ForSchema two_columns (λ schema. ¬ (HasAcceptedInputs [] equal_items (filters schema) 3)) }
-    ensures no_such_node { (schema : Schema) → ¬ (HasAcceptedInputs [] equal_items (filters schema) 4) }
+    ensures unchecked_input { ForSchema two_columns (λ schema. HasUncheckedInputs [] equal_items (filters schema) 3) }
+    ensures other_rule { ForSchema named_twice (λ schema. ¬ (HasUncheckedInputs [] equal_items (filters schema) 2)) }
+    ensures no_such_node { (schema : Schema) → ¬ (HasUncheckedInputs [] equal_items (filters schema) 4) }
+    ensures accepted { (registry : Registry) (expressions : List AExpr) (plans : List IR) (n : ℕ) → HasAcceptedInputs registry expressions plans n → HasUncheckedInputs registry expressions plans n }
     ensures over_the_scan { ForSchema two_columns (λ schema. StandsOver [] equal_items (filters schema) 2 (FilterKind (named a)) two_columns) }
     ensures over_nothing { ForSchema two_columns (λ schema. StandsOver [] equal_items (filters schema) 0 (ScanKind (Some 0) two_columns) two_columns) }
+    ensures over_a_filter { ForSchema two_columns (λ schema. StandsOver [] equal_items (filters schema) 3 (FilterKind (named (binary Eq a b))) two_columns) }
     ensures other_kind { ForSchema two_columns (λ schema. ¬ (StandsOver [] equal_items (filters schema) 0 (FilterKind (named a)) two_columns)) }
     ensures other_schema { ForSchema two_columns (λ schema. ¬ (StandsOver [] equal_items (filters schema) 2 (FilterKind (named a)) [])) }
 {}

@@ -11,7 +11,7 @@ use Rattle.plan_arena.specs.Items.{HoldsPlan}
 use Rattle.plan_infer.specs.Samples.{two_columns, a, b, binary}
 use Rattle.plan_coerce.specs.Rules.{IsPlanReplacement, IsSettledPlan, StandsOver, has_truth}
 use Rattle.plan_coerce.specs.Samples.{equal_items, filter_by, scan_and}
-use Rattle.plan_coerce.proofs.ExampleLemmas.{equal_denotes, filter_denotes, filter_kind, filter_over, filter_stands, no_filter, one_kind, scan_accepted, scan_at, scan_denotes, truth_settled}
+use Rattle.plan_coerce.proofs.ExampleLemmas.{equal_denotes, filter_denotes, filter_kind, filter_over, filter_stands, no_filter, one_kind, over_scan, scan_accepted, scan_at, scan_denotes, scan_node, truth_settled}
 use Rattle.plan_coerce.proofs.examples.optimizer.plan_nodes_that_are_put_in_place.Goals as goal
 
 module _ (schema : Schema) (is : columns schema ≡ two_columns) where
@@ -29,7 +29,8 @@ module _ (schema : Schema) (is : columns schema ≡ two_columns) where
 
   other_filter : IsPlanReplacement [] equal_items (scan_and schema (filter_by 0 0 ∷ [])) (scan_and schema (filter_by 0 2 ∷ [])) 1
   other_filter = record {
-    accepted = record { op = filter_op (named (binary Eq a b)); inputs = more (scan_of 0 two_columns) no_more; is = record { denotes = by_truth; accepted = scan_accepted } };
+    over = record { op = filter_op (named (binary Eq a b)); inputs = more (scan_of 0 two_columns) no_more; is = over_scan (scan_and schema (filter_by 0 2 ∷ [])) 1 (binary Eq a b) by_truth };
+    accepted = λ before. record { op = filter_op (named (binary Eq a b)); inputs = more (scan_of 0 two_columns) no_more; denotes = by_truth; accepted = scan_accepted };
     filter = λ predicate over s. (
       named a,
       subst (StandsOver [] equal_items (scan_and schema (filter_by 0 0 ∷ [])) 1 (FilterKind (named a))) (sym (filter_over (scan_and schema (filter_by 0 2 ∷ [])) 1 (binary Eq a b) by_truth (FilterKind predicate) over s))
@@ -52,7 +53,8 @@ returns-clause-other_filter c = other_filter
 
 pub returns-clause-scan_for_a_filter : goal.returns-clause-scan_for_a_filter
 returns-clause-scan_for_a_filter c = λ schema is. record {
-  accepted = record { op = scan_op (Some 0) two_columns; inputs = no_more; is = record { denotes = two_scans schema is; accepted = tt } };
+  over = record { op = scan_op (Some 0) two_columns; inputs = no_more; is = scan_node (scan_and schema (DataFrameScan (Some 0) schema ∷ [])) 1 two_columns (two_scans schema is) };
+  accepted = λ before. record { op = scan_op (Some 0) two_columns; inputs = no_more; denotes = two_scans schema is; accepted = tt };
   filter = λ predicate over s. absurd (no_filters schema is predicate over s);
 }
 

@@ -20,30 +20,30 @@ check_predicate-requires-clause-tree g c =
 
 pub check_predicate-requires-clause-right : goal.check_predicate-requires-clause-right
 check_predicate-requires-clause-right g c =
-    right_over_filter (registry c.args.udfs.now) c.args.expr_arena.now c.args.lp_arena.now c.args.node.0 c.in-Filter.input c.in-Filter.predicate (c.get.ensures ∙ ap Some c.in-Filter.is) c.requires.inputs c.get-2.result.now c.get-2.ensures (columns c.schema_ref-schema.result.now) c.schema_ref-schema.ensures.rule c.args.types.now c.requires.right
+    right_over_filter (registry c.args.udfs.now) c.args.expr_arena.now c.args.lp_arena.now c.args.node.0 c.in-Filter.input c.in-Filter.predicate (c.get.ensures ∙ ap Some c.in-Filter.is) c.requires.inputs c.get-2.result.now c.get-2.ensures (columns c.schema_ref-schema.result.now) c.schema_ref-schema.ensures.denoted c.args.types.now c.requires.right
 
 pub returns-in_err-check_predicate-clause-right : goal.returns-in_err-check_predicate-clause-right
 returns-in_err-check_predicate-clause-right g c = λ schema right only.
-    let same = schema_is (registry c.args.udfs.now) c.args.expr_arena.now c.args.lp_arena.now c.args.node.0 c.in-Filter.input c.in-Filter.predicate (c.get.ensures ∙ ap Some c.in-Filter.is) c.requires.inputs c.get-2.result.now c.get-2.ensures (columns c.schema_ref-schema.result.now) c.schema_ref-schema.ensures.rule schema only in
+    let same = schema_is (registry c.args.udfs.now) c.args.expr_arena.now c.args.lp_arena.now c.args.node.0 c.in-Filter.input c.in-Filter.predicate (c.get.ensures ∙ ap Some c.in-Filter.is) c.requires.inputs c.get-2.result.now c.get-2.ensures (columns c.schema_ref-schema.result.now) c.schema_ref-schema.ensures.denoted schema only in
     subst (λ s. IsRight (registry c.args.udfs.now) s c.args.expr_arena.now c.check_predicate.new.types) same c.check_predicate.ensures.right
 
 pub returns-in_err-check_predicate-clause-untouched : goal.returns-in_err-check_predicate-clause-untouched
 returns-in_err-check_predicate-clause-untouched g c = λ none.
-    absurd (is_over (registry c.args.udfs.now) c.args.expr_arena.now c.args.lp_arena.now c.args.node.0 c.in-Filter.input c.in-Filter.predicate (c.get.ensures ∙ ap Some c.in-Filter.is) c.requires.inputs c.get-2.result.now c.get-2.ensures (columns c.schema_ref-schema.result.now) c.schema_ref-schema.ensures.rule none)
+    absurd (is_over (registry c.args.udfs.now) c.args.expr_arena.now c.args.lp_arena.now c.args.node.0 c.in-Filter.input c.in-Filter.predicate (c.get.ensures ∙ ap Some c.in-Filter.is) c.requires.inputs c.get-2.result.now c.get-2.ensures (columns c.schema_ref-schema.result.now) c.schema_ref-schema.ensures.denoted none)
 
 pub returns-in_err-check_predicate-clause-err : goal.returns-in_err-check_predicate-clause-err
 returns-in_err-check_predicate-clause-err g c = passed_on c.from_residual.result c.in_err-check_predicate.field-0.0 _ c.from_residual.ensures.1
-    (refused (registry c.args.udfs.now) c.args.expr_arena.now c.args.lp_arena.now c.args.node.0 c.in-Filter.input c.in-Filter.predicate (c.get.ensures ∙ ap Some c.in-Filter.is) c.requires.inputs c.get-2.result.now c.get-2.ensures (columns c.schema_ref-schema.result.now) c.schema_ref-schema.ensures.rule c.in_err-check_predicate.field-0.0 (λ t d. c.in_err-check_predicate.ensures.err t (subst (λ n. Denotes (HoldsExpression c.args.expr_arena.now) n t) (sym c.node.ensures) d)))
+    (refused (registry c.args.udfs.now) c.args.expr_arena.now c.args.lp_arena.now c.args.node.0 c.in-Filter.input c.in-Filter.predicate (c.get.ensures ∙ ap Some c.in-Filter.is) c.requires.inputs c.get-2.result.now c.get-2.ensures (columns c.schema_ref-schema.result.now) c.schema_ref-schema.ensures.denoted c.in_err-check_predicate.field-0.0 (λ t d. c.in_err-check_predicate.ensures.err t (subst (λ n. Denotes (HoldsExpression c.args.expr_arena.now) n t) (sym c.node.ensures) d)))
 
 pub returns-clause-answer : goal.returns-clause-answer
 returns-clause-answer g c =
-    checked (registry c.args.udfs.now) c.args.expr_arena.now c.args.lp_arena.now c.args.node.0 c.in-Filter.input c.in-Filter.predicate (c.get.ensures ∙ ap Some c.in-Filter.is) c.requires.inputs c.get-2.result.now c.get-2.ensures (columns c.schema_ref-schema.result.now) c.schema_ref-schema.ensures.rule (λ t d. c.in_ok-check_predicate.ensures.ok t (subst (λ n. Denotes (HoldsExpression c.args.expr_arena.now) n t) (sym c.node.ensures) d))
+    checked (registry c.args.udfs.now) c.args.expr_arena.now c.args.lp_arena.now c.args.node.0 c.in-Filter.input c.in-Filter.predicate (c.get.ensures ∙ ap Some c.in-Filter.is) c.requires.inputs c.get-2.result.now c.get-2.ensures (columns c.schema_ref-schema.result.now) c.schema_ref-schema.ensures.denoted (λ t d. c.in_ok-check_predicate.ensures.ok t (subst (λ n. Denotes (HoldsExpression c.args.expr_arena.now) n t) (sym c.node.ensures) d))
 
 pub returns-clause-right : goal.returns-clause-right
 returns-clause-right g c = λ schema right only.
-    let same = schema_is (registry c.args.udfs.now) c.args.expr_arena.now c.args.lp_arena.now c.args.node.0 c.in-Filter.input c.in-Filter.predicate (c.get.ensures ∙ ap Some c.in-Filter.is) c.requires.inputs c.get-2.result.now c.get-2.ensures (columns c.schema_ref-schema.result.now) c.schema_ref-schema.ensures.rule schema only in
+    let same = schema_is (registry c.args.udfs.now) c.args.expr_arena.now c.args.lp_arena.now c.args.node.0 c.in-Filter.input c.in-Filter.predicate (c.get.ensures ∙ ap Some c.in-Filter.is) c.requires.inputs c.get-2.result.now c.get-2.ensures (columns c.schema_ref-schema.result.now) c.schema_ref-schema.ensures.denoted schema only in
     subst (λ s. IsRight (registry c.args.udfs.now) s c.args.expr_arena.now c.check_predicate.new.types) same c.check_predicate.ensures.right
 
 pub returns-clause-untouched : goal.returns-clause-untouched
 returns-clause-untouched g c = λ none.
-    absurd (is_over (registry c.args.udfs.now) c.args.expr_arena.now c.args.lp_arena.now c.args.node.0 c.in-Filter.input c.in-Filter.predicate (c.get.ensures ∙ ap Some c.in-Filter.is) c.requires.inputs c.get-2.result.now c.get-2.ensures (columns c.schema_ref-schema.result.now) c.schema_ref-schema.ensures.rule none)
+    absurd (is_over (registry c.args.udfs.now) c.args.expr_arena.now c.args.lp_arena.now c.args.node.0 c.in-Filter.input c.in-Filter.predicate (c.get.ensures ∙ ap Some c.in-Filter.is) c.requires.inputs c.get-2.result.now c.get-2.ensures (columns c.schema_ref-schema.result.now) c.schema_ref-schema.ensures.denoted none)

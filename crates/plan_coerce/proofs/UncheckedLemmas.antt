@@ -1,0 +1,180 @@
+-- Plans whose predicates' types aren't checked: their schemas are those that are recorded, with any arena of expressions.
+use Rattle.std.proofs.Common.{◌≡◌, ℕ, List, [], ◌∷◌, ◌++◌, map, IsTrue, Option, Some, None, is_some, option_map, slice_get, refl, sym, ap, ◌∙◌, subst}
+use Rattle.std.specs.List.{AllByRecursion}
+use Rattle.std.proofs.lemmas.Option.{slice_get-map}
+use Rattle.plan_types.specs.Schemas.{Columns, columns}
+use Rattle.plan_types.specs.declared.error.ErrorKind.{ErrorKind}
+use Rattle.plan_dsl.specs.Registry.{Registry}
+use Rattle.plan_dsl.specs.Trees.{Trees, node, no_more, more, fold_all}
+use Rattle.plan_dsl.specs.Ops.{Expression}
+use Rattle.plan_dsl.specs.Plans.{Named, PlanKind, FilterKind, PlanOp, Plan, expressions_of, filter_op}
+use Rattle.plan_dsl.specs.PlanRules.{expression_kinds, input_schema, own_kinds, plan_rule, schema_by, schema_of, schemas_of, where_unbroken}
+use Rattle.plan_arena.specs.declared.aexpr.AExpr.{AExpr}
+use Rattle.plan_arena.specs.declared.ir.IR.{IR}
+use Rattle.plan_arena.specs.declared.ir.IR.TheVariants.{DataFrameScan, Filter, GroupBy, HStack, Select, SimpleProjection, Invalid}
+use Rattle.plan_arena.specs.Denotation.{Denotes, DenoteAll}
+use Rattle.plan_arena.specs.Layers.{Layer, layer, op_of}
+use Rattle.plan_arena.specs.Items.{DenotesKind, DenotesOp, HoldsPlan, named_node, plan_layer}
+use Rattle.plan_arena.specs.RecordedSchemas.{recorded_over, schema_recorded}
+use Rattle.plan_arena.specs.Runs.{AllAccepted, HasRecorded, IsAccepted, own_schema}
+use Rattle.plan_arena.proofs.DenotationLemmas.{some_same}
+use Rattle.plan_arena.proofs.ItemLemmas.{is_valid, layer_inputs, layer_op}
+use Rattle.plan_coerce.specs.Unchecked.{AllKeepOtherRules, HasUncheckedSchema, KeepsOtherRules, unchecked_kinds, unchecked_own_kinds, unchecked_rule, unchecked_schema}
+
+-- ---- one schema is recorded
+
+module _ (plans : List IR) (items others : List AExpr) where
+  mutual
+    -- the plans that a node denotes with two arenas of expressions record one schema
+    pub recorded_same : (n : ℕ) (t u : Plan) → Denotes (HoldsPlan items plans) n t → Denotes (HoldsPlan others plans) n u → schema_recorded t ≡ schema_recorded u
+    recorded_same n (node op ts) (node op' us) d e =
+        let there = some_same (slice_get (map plan_layer plans) n) (layer d.1.flat d.0) (layer e.1.flat e.0) d.1.item e.1.item in
+        let recorded = sym d.1.denotes.same_recorded ∙ ap (λ (f : PlanOp (Named ℕ)). f.recorded) (layer_op d.1.flat e.1.flat d.0 e.0 there) ∙ e.1.denotes.same_recorded in
+        let first = first_same d.0 ts us d.2 (subst (λ ns. DenoteAll (HoldsPlan others plans) ns us) (sym (layer_inputs d.1.flat e.1.flat d.0 e.0 there)) e.2) in
+        ap (λ r. own_schema r (input_schema (fold_all recorded_over ts) 0)) recorded ∙ ap (own_schema op'.recorded) first
+
+    first_same : (ns : List ℕ) (ts us : Trees (PlanOp (Named Expression))) → DenoteAll (HoldsPlan items plans) ns ts → DenoteAll (HoldsPlan others plans) ns us → input_schema (fold_all recorded_over ts) 0 ≡ input_schema (fold_all recorded_over us) 0
+    first_same [] no_more no_more d e = refl
+    first_same (n ∷ ns) (more t ts) (more u us) d e = recorded_same n t u d.0 e.0
+    first_same [] (more t ts) us d e = absurd d
+    first_same [] no_more (more u us) d e = absurd e
+    first_same (n ∷ ns) no_more us d e = absurd d
+    first_same (n ∷ ns) (more t ts) no_more d e = absurd e
+
+-- ---- it is the one of the rules
+
+has_some : (r found : Option Columns) → HasRecorded r found → IsTrue (is_some found)
+has_some None found h = h
+has_some (Some own) found h = subst (λ o. IsTrue (is_some o)) (sym h) refl
+
+unbroken_is : (kinds : List ErrorKind) (schema : Option Columns) → IsTrue (is_some (where_unbroken kinds schema)) → where_unbroken kinds schema ≡ schema
+unbroken_is [] schema h = refl
+unbroken_is (kind ∷ kinds) schema h = absurd cc
+
+abbrev filter_by : Named Expression → Option Columns → PlanOp (Named Expression)
+filter_by predicate recorded = record { kind = FilterKind predicate; recorded = recorded }
+
+filtered_schema : (registry : Registry) (predicate : Named Expression) (recorded : Option Columns) (schema : Option Columns) → IsTrue (is_some (unchecked_rule registry (filter_by predicate recorded) (schema ∷ []))) → unchecked_rule registry (filter_by predicate recorded) (schema ∷ []) ≡ schema
+filtered_schema registry predicate recorded None h = unbroken_is (unchecked_kinds registry (filter_by predicate recorded) (None ∷ [])) None h
+filtered_schema registry predicate recorded (Some schema) h =
+    unbroken_is (unchecked_kinds registry (filter_by predicate recorded) (Some schema ∷ [])) (Some schema) h
+
+-- a filter that has a schema has that of its input
+filter_keeps : (registry : Registry) (op : PlanOp (Named Expression)) (predicate : Named Expression) → op.kind ≡ FilterKind predicate → (schema : Option Columns) → IsTrue (is_some (unchecked_rule registry op (schema ∷ []))) → unchecked_rule registry op (schema ∷ []) ≡ schema
+filter_keeps registry op predicate kind schema h =
+    let rule : unchecked_rule registry op (schema ∷ []) ≡ unchecked_rule registry (filter_by predicate op.recorded) (schema ∷ []) =
+    ap (λ (k : PlanKind (Named Expression)). unchecked_rule registry (record { kind = k; recorded = op.recorded }) (schema ∷ [])) kind in
+    rule ∙ filtered_schema registry predicate op.recorded schema (subst (λ o. IsTrue (is_some o)) rule h)
+
+-- what is recorded is one of two: a node's own, or that of its input
+by_recorded : (r found first : Option Columns) → HasRecorded r found → (r ≡ None → first ≡ found) → own_schema r first ≡ found
+by_recorded (Some own) found first has none = sym has
+by_recorded None found first has none = none refl
+
+module _ (expressions : List AExpr) where
+  records : (l : Layer (PlanOp (Named ℕ))) (own : Columns) (flat : PlanOp (Named ℕ)) (ns : List ℕ) (op : PlanOp (Named Expression)) → l ≡ layer flat ns → (op_of l).recorded ≡ Some own → DenotesOp expressions flat op → op.recorded ≡ None → ⊥
+  records l own flat ns op is recorded d none =
+      let some : Some own ≡ None = sym recorded ∙ ap (λ (l : Layer (PlanOp (Named ℕ))). (op_of l).recorded) is ∙ d.same_recorded ∙ none in
+      cc
+
+  -- only a filter records none, and has one input
+  is_filter : (item : IR) (flat : PlanOp (Named ℕ)) (ns : List ℕ) (op : PlanOp (Named Expression)) → plan_layer item ≡ layer flat ns → DenotesOp expressions flat op → op.recorded ≡ None → (predicate : Named Expression) × (m : ℕ) × (op.kind ≡ FilterKind predicate) × (ns ≡ m ∷ [])
+  is_filter (Filter input predicate) flat ns op is d none =
+      let kind = subst (λ (f : PlanOp (Named ℕ)). DenotesKind expressions f.kind op.kind) (sym (layer_op (filter_op (named_node predicate)) flat (input.0 ∷ []) ns is)) d.kind in
+      (kind.0, input.0, kind.1, sym (layer_inputs (filter_op (named_node predicate)) flat (input.0 ∷ []) ns is))
+  is_filter (DataFrameScan table schema) flat ns op is d none = absurd (records _ (columns schema) flat ns op is refl d none)
+  is_filter (GroupBy input keys aggs schema maintain_order) flat ns op is d none = absurd (records _ (columns schema) flat ns op is refl d none)
+  is_filter (HStack exprs input schema options) flat ns op is d none = absurd (records _ (columns schema) flat ns op is refl d none)
+  is_filter (Select expr input schema options) flat ns op is d none = absurd (records _ (columns schema) flat ns op is refl d none)
+  is_filter (SimpleProjection input schema) flat ns op is d none = absurd (records _ (columns schema) flat ns op is refl d none)
+  is_filter Invalid flat ns op is d none = absurd (is_valid expressions Invalid flat ns op is d refl)
+
+  item_of : (found : Option IR) (l : Layer (PlanOp (Named ℕ))) → option_map plan_layer found ≡ Some l → (item : IR) × (plan_layer item ≡ l)
+  item_of None l e = cc
+  item_of (Some item) l e = let is : plan_layer item ≡ l = cc in (item, is)
+
+  module _ (plans : List IR) (registry : Registry) where
+    mutual
+      -- a plan that keeps the other rules has the schema that is recorded of it
+      pub recorded_is : (n : ℕ) (t : Plan) → Denotes (HoldsPlan expressions plans) n t → KeepsOtherRules registry t → schema_recorded t ≡ unchecked_schema registry t
+      recorded_is n (node op ts) d keeps =
+          by_recorded op.recorded (unchecked_schema registry (node op ts)) (input_schema (fold_all recorded_over ts) 0) keeps.0 (λ none.
+          let item = item_of (slice_get plans n) (layer d.1.flat d.0) (sym (slice_get-map plan_layer plans n) ∙ d.1.item) in
+          let f = is_filter item.0 d.1.flat d.0 op item.1 d.1.denotes none in
+          filtered op f.0 f.2 f.1 ts (subst (λ ns. DenoteAll (HoldsPlan expressions plans) ns ts) f.3 d.2) keeps.1 (has_some op.recorded _ keeps.0))
+
+      filtered : (op : PlanOp (Named Expression)) (predicate : Named Expression) → op.kind ≡ FilterKind predicate → (m : ℕ) (ts : Trees (PlanOp (Named Expression))) → DenoteAll (HoldsPlan expressions plans) (m ∷ []) ts → AllKeepOtherRules registry ts → IsTrue (is_some (unchecked_schema registry (node op ts))) → input_schema (fold_all recorded_over ts) 0 ≡ unchecked_schema registry (node op ts)
+      filtered op predicate kind m (more t no_more) d keeps there = recorded_is m t d.0 keeps.0 ∙ sym (filter_keeps registry op predicate kind (unchecked_schema registry t) there)
+      filtered op predicate kind m no_more d keeps there = absurd d
+      filtered op predicate kind m (more t (more u us)) d keeps there = absurd d.1
+
+-- ---- a node has one schema so
+
+pub some_one : (a b : Columns) → Some a ≡ Some b → a ≡ b
+some_one a b e = cc
+
+module _ (registry : Registry) (plans : List IR) (n : ℕ) where
+  -- it is recorded of whatever plan the node denotes
+  pub schema_recorded_is : (schema : Columns) → HasUncheckedSchema registry plans n schema → (items : List AExpr) (t : Plan) → Denotes (HoldsPlan items plans) n t → schema_recorded t ≡ Some schema
+  schema_recorded_is schema h items t d =
+      recorded_same plans items h.expressions n t h.plan d h.denotes ∙ recorded_is h.expressions plans registry n h.plan h.denotes h.keeps ∙ h.is
+
+  pub one_schema : (a b : Columns) → HasUncheckedSchema registry plans n a → HasUncheckedSchema registry plans n b → a ≡ b
+  one_schema a b h k = some_one a b (sym (schema_recorded_is a h k.expressions k.plan k.denotes) ∙ schema_recorded_is b k k.expressions k.plan k.denotes)
+
+-- ---- what is accepted keeps the other rules
+
+none_of : (kinds others : List ErrorKind) → kinds ++ others ≡ [] → (kinds ≡ []) × (others ≡ [])
+none_of [] others e = (refl, e)
+none_of (kind ∷ kinds) others e = cc
+
+unbroken_none : (kinds : List ErrorKind) (schema : Option Columns) → IsTrue (is_some (where_unbroken kinds schema)) → kinds ≡ []
+unbroken_none [] schema h = refl
+unbroken_none (kind ∷ kinds) schema h = absurd cc
+
+own_none : (registry : Registry) (kind : PlanKind (Named Expression)) (inputs : List (Option Columns)) → own_kinds registry kind inputs ≡ [] → unchecked_own_kinds registry kind inputs ≡ []
+own_none registry (FilterKind predicate) (Some schema ∷ []) e = refl
+own_none registry kind inputs e = e
+
+-- a node that has a schema has it unchecked
+unchecked_is : (registry : Registry) (op : PlanOp (Named Expression)) (inputs : List (Option Columns)) → IsTrue (is_some (plan_rule registry op inputs)) → unchecked_rule registry op inputs ≡ plan_rule registry op inputs
+unchecked_is registry op inputs h =
+    let found = schema_by registry op.kind inputs in
+    let none = none_of (expression_kinds registry inputs (expressions_of op.kind)) (own_kinds registry op.kind inputs) (unbroken_none _ found h) in
+    ap (λ kinds. where_unbroken (expression_kinds registry inputs (expressions_of op.kind) ++ kinds) found) (own_none registry op.kind inputs none.1 ∙ sym none.1)
+
+module _ (registry : Registry) where
+  mutual
+    pub accepted_keeps : (t : Plan) → IsAccepted registry t → KeepsOtherRules registry t × (unchecked_schema registry t ≡ schema_of registry t)
+    accepted_keeps (node op ts) accepted =
+        let below = all_accepted_keep ts accepted.1 in
+        let same = ap (unchecked_rule registry op) below.1 ∙ unchecked_is registry op (schemas_of registry ts) (has_some op.recorded _ accepted.0) in
+        ((subst (HasRecorded op.recorded) (sym same) accepted.0, below.0), same)
+
+    all_accepted_keep : (ts : Trees (PlanOp (Named Expression))) → AllAccepted registry ts → AllKeepOtherRules registry ts × (fold_all (unchecked_rule registry) ts ≡ schemas_of registry ts)
+    all_accepted_keep no_more accepted = (tt, refl)
+    all_accepted_keep (more t ts) accepted =
+        let first = accepted_keeps t accepted.0 in
+        let rest = all_accepted_keep ts accepted.1 in
+        ((first.0, rest.0), ap (λ s. s ∷ fold_all (unchecked_rule registry) ts) first.1 ∙ ap (λ ss. schema_of registry t ∷ ss) rest.1)
+
+  -- an accepted plan's node has its schema so
+  pub accepted_schema : (expressions : List AExpr) (plans : List IR) (n : ℕ) (t : Plan) (schema : Columns) → Denotes (HoldsPlan expressions plans) n t → IsAccepted registry t → schema_of registry t ≡ Some schema → HasUncheckedSchema registry plans n schema
+  accepted_schema expressions plans n t schema d accepted is =
+      let keeps = accepted_keeps t accepted in
+      record { expressions = expressions; plan = t; denotes = d; keeps = keeps.0; is = keeps.1 ∙ is }
+
+  schema_there : (found : Option Columns) → IsTrue (is_some found) → (schema : Columns) × (found ≡ Some schema)
+  schema_there (Some schema) h = (schema, refl)
+  schema_there None h = absurd cc
+
+  top_there : (t : Plan) → IsAccepted registry t → IsTrue (is_some (schema_of registry t))
+  top_there (node op ts) accepted = has_some op.recorded _ accepted.0
+
+  -- and so has each of such nodes
+  pub all_accepted_schemas : (expressions : List AExpr) (plans : List IR) (ns : List ℕ) (ts : Trees (PlanOp (Named Expression))) → DenoteAll (HoldsPlan expressions plans) ns ts → AllAccepted registry ts → AllByRecursion (λ n. (schema : Columns) × HasUncheckedSchema registry plans n schema) ns
+  all_accepted_schemas expressions plans [] ts d accepted = tt
+  all_accepted_schemas expressions plans (n ∷ ns) (more t ts) d accepted =
+      let there = schema_there (schema_of registry t) (top_there t accepted.0) in
+      ((there.0, accepted_schema expressions plans n t there.0 d.0 accepted.0 there.1), all_accepted_schemas expressions plans ns ts d.1 accepted.1)
+  all_accepted_schemas expressions plans (n ∷ ns) no_more d accepted = absurd d
