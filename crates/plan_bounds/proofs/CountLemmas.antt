@@ -33,7 +33,7 @@ use Rattle.plan_coerce.specs.Coercion.{fitted, fitted_by, coerced, coerced_all}
 use Rattle.plan_coerce.specs.InlinedCasts.{all_inlined, cast_of, in_place_of, inlined, is_logical, literal_cast, written_out}
 use Rattle.plan_coerce.proofs.InliningLemmas.{all_inlined_same, gives_literal, some_where}
 use Rattle.plan_coerce.proofs.NameLemmas.{all_coerced_same, coerced_same}
-use Rattle.plan_bounds.specs.Counts.{changed_casts, operand_casts, operands_casts, ruled_casts, node_casts, implicit_casts, all_implicit_casts, needed_casts, other_nodes_step, other_nodes, is_idle, idle_casts, all_idle_casts}
+use Rattle.plan_bounds.specs.Counts.{changed_casts, operand_casts, operands_casts, ruled_casts, node_casts, implicit_casts, all_implicit_casts, needed_casts, own_nodes, other_nodes_step, other_nodes, is_idle, idle_casts, all_idle_casts}
 
 -- ---- coercion keeps types, so each operand is what the typing of its tree says
 
@@ -223,8 +223,8 @@ abbrev pub other_cost : Op → Result (List Typed) ErrorKind → ℕ
 other_cost (CastOp target options) found = 0
 other_cost op found = 1
 
-abbrev pub idle_cost : Op → Result (List Typed) ErrorKind → ℕ
-idle_cost op found = cond (is_idle op found) 1 0
+abbrev pub idle_cost : Bool → Op → Result (List Typed) ErrorKind → ℕ
+idle_cost write op found = cond (is_idle write op found) 1 0
 
 casts_flat : IsFlat cast_cost
 casts_flat = record { literals = λ type own value made found other. refl; aliases = λ name a b. refl }
@@ -242,38 +242,41 @@ module _ (registry : Registry) (schema : Columns) where
   }
 
   -- a cast takes its operand to the type that it has alone
-  cast_kept : (target : Ty) (options : CastOptions) (from : Typed) (own : Option Ty) → type_alone from.type ≡ own → (ruling : Ruling) → ruled_as (cast_taken target own) from.many ≡ Ok ruling → idle_cost (CastOp target options) (Ok (typed_to (from ∷ []) ruling.operands)) ≡ idle_cost (CastOp target options) (Ok (from ∷ []))
+  cast_kept : (target : Ty) (options : CastOptions) (from : Typed) (own : Option Ty) → type_alone from.type ≡ own → (ruling : Ruling) → ruled_as (cast_taken target own) from.many ≡ Ok ruling → idle_cost false (CastOp target options) (Ok (typed_to (from ∷ []) ruling.operands)) ≡ idle_cost false (CastOp target options) (Ok (from ∷ []))
   cast_kept target options from None alone ruling rules = cc
   cast_kept target options from (Some own) alone ruling rules =
       let known = alone_known from.type own alone in
       let itself = ap (λ found. unwrap_or found own) (alone_itself own known) in
       let before = ap (λ found. unwrap_or found from.type) alone in
-      elim (can_cast own target) as (λ b. ruled_as (cond b (Ok (record { operands = own ∷ []; type = target })) (Err InvalidOperation)) from.many ≡ Ok ruling → idle_cost (CastOp target options) (Ok (typed_to (from ∷ []) ruling.operands)) ≡ idle_cost (CastOp target options) (Ok (from ∷ []))) [
+      elim (can_cast own target) as (λ b. ruled_as (cond b (Ok (record { operands = own ∷ []; type = target })) (Err InvalidOperation)) from.many ≡ Ok ruling → idle_cost false (CastOp target options) (Ok (typed_to (from ∷ []) ruling.operands)) ≡ idle_cost false (CastOp target options) (Ok (from ∷ []))) [
         | true ↦ λ e.
             let is : ruling ≡ record { operands = own ∷ []; own = record { type = target; many = from.many } } = cc in
-            ap (λ r. idle_cost (CastOp target options) (Ok (typed_to (from ∷ []) r.operands))) is ∙ ap (λ t. cond (same_type t target) 1 0) (itself ∙ sym before)
+            ap (λ r. idle_cost false (CastOp target options) (Ok (typed_to (from ∷ []) r.operands))) is ∙ ap (λ t. cond (same_type t target) 1 0) (itself ∙ sym before)
         | false ↦ λ e. cc
       ] rules
 
-  idle_kept : (op : Op) (typed : List Typed) (ruling : Ruling) → rule registry schema op typed ≡ Ok ruling → idle_cost op (Ok (typed_to typed ruling.operands)) ≡ idle_cost op (Ok typed)
+  idle_kept : (op : Op) (typed : List Typed) (ruling : Ruling) → rule registry schema op typed ≡ Ok ruling → idle_cost false op (Ok (typed_to typed ruling.operands)) ≡ idle_cost false op (Ok typed)
   idle_kept (CastOp target options) (from ∷ []) ruling rules = cast_kept target options from (type_alone from.type) refl ruling rules
   idle_kept (CastOp target options) typed ruling rules = cc
   idle_kept op typed ruling rules = refl
 
-  idle_costs : IsCost registry schema idle_cost
+  idle_flat : (write : Bool) → IsFlat (idle_cost write)
+  idle_flat write = record { literals = λ type own value made found other. refl; aliases = λ name a b. refl }
+
+  idle_costs : IsCost registry schema (idle_cost false)
   idle_costs = record {
-    flat = record { literals = λ type own value made found other. refl; aliases = λ name a b. refl };
+    flat = idle_flat false;
     kept = idle_kept;
     casts = λ from target many known other. ap (λ found. cond (same_type (unwrap_or found from) target) 1 0) (alone_itself from known) ∙ ap (λ b. cond b 1 0) other;
   }
 
   -- ---- what is counted is what the definitions count
 
-  op_casts_are : (op : Op) (children : Trees Op) → op_casts op (fold_all op_casts children) ≡ cast_cost op (typing_all registry schema children) + sum (fold_all op_casts children)
+  pub op_casts_are : (op : Op) (children : Trees Op) → op_casts op (fold_all op_casts children) ≡ cast_cost op (typing_all registry schema children) + sum (fold_all op_casts children)
   op_casts_are (CastOp target options) children = refl
   op_casts_are op children = omega arith
 
-  op_others_are : (op : Op) (children : Trees Op) → other_nodes_step op (fold_all other_nodes_step children) ≡ other_cost op (typing_all registry schema children) + sum (fold_all other_nodes_step children)
+  op_others_are : (op : Op) (children : Trees Op) → other_nodes_step false op (fold_all (other_nodes_step false) children) ≡ other_cost op (typing_all registry schema children) + sum (fold_all (other_nodes_step false) children)
   op_others_are (CastOp target options) children = omega arith
   op_others_are op children = refl
 
@@ -290,24 +293,25 @@ module _ (registry : Registry) (schema : Columns) where
         omega (arith, whole, own, below)
 
   mutual
-    pub others_counted : (tree : Expression) → other_nodes tree ≡ counted registry schema other_cost tree
+    pub others_counted : (tree : Expression) → other_nodes false tree ≡ counted registry schema other_cost tree
     others_counted (node op children) = let own = op_others_are op children in let below = all_others_counted children in omega (arith, own, below)
 
-    all_others_counted : (trees : Trees Op) → sum (fold_all other_nodes_step trees) ≡ all_counted registry schema other_cost trees
+    all_others_counted : (trees : Trees Op) → sum (fold_all (other_nodes_step false) trees) ≡ all_counted registry schema other_cost trees
     all_others_counted no_more = refl
     all_others_counted (more tree trees) =
-        let whole = sum_by-cons (λ (x : ℕ). x) (other_nodes tree) (fold_all other_nodes_step trees) in
+        let whole = sum_by-cons (λ (x : ℕ). x) (other_nodes false tree) (fold_all (other_nodes_step false) trees) in
         let own = others_counted tree in
         let below = all_others_counted trees in
         omega (arith, whole, own, below)
 
-  mutual
-    pub idle_counted : (tree : Expression) → idle_casts registry schema tree ≡ counted registry schema idle_cost tree
-    idle_counted (node op children) = ap (λ n. idle_cost op (typing_all registry schema children) + n) (all_idle_counted children)
+  module _ (write : Bool) where
+    mutual
+      pub idle_counted : (tree : Expression) → idle_casts write registry schema tree ≡ counted registry schema (idle_cost write) tree
+      idle_counted (node op children) = ap (λ n. idle_cost write op (typing_all registry schema children) + n) (all_idle_counted children)
 
-    all_idle_counted : (trees : Trees Op) → all_idle_casts registry schema trees ≡ all_counted registry schema idle_cost trees
-    all_idle_counted no_more = refl
-    all_idle_counted (more tree trees) = let own = idle_counted tree in let below = all_idle_counted trees in omega (arith, own, below)
+      all_idle_counted : (trees : Trees Op) → all_idle_casts write registry schema trees ≡ all_counted registry schema (idle_cost write) trees
+      all_idle_counted no_more = refl
+      all_idle_counted (more tree trees) = let own = idle_counted tree in let below = all_idle_counted trees in omega (arith, own, below)
 
   -- ---- casts that are put in count where they don't go
 
@@ -356,7 +360,7 @@ module _ (registry : Registry) (schema : Columns) where
   cast_cost_same op a b = refl
 
   mutual
-    written_needs : (tree : Expression) (typed : Typed) → typing registry schema tree ≡ Ok typed → counted registry schema cast_cost (written_out registry schema tree) ≤ counted registry schema cast_cost tree + implicit_casts registry schema tree
+    written_needs : (tree : Expression) (typed : Typed) → typing registry schema tree ≡ Ok typed → counted registry schema cast_cost (written_out registry schema tree) ≤ counted registry schema cast_cost tree + implicit_casts false registry schema tree
     written_needs (node op children) typed h =
         let p = typed_parts registry schema op children typed h in
         let after = coerced_all registry schema children in
@@ -366,14 +370,14 @@ module _ (registry : Registry) (schema : Columns) where
         let same = cast_cost_same op (typing_all registry schema (all_inlined made)) (typing_all registry schema children) in
         let own = operands_need (types_of p.below) p.ruling.operands after in
         let below = all_written_need children p.below p.children_typed in
-        let here : node_casts registry schema op (typing_all registry schema children) ≡ operands_casts (types_of p.below) p.ruling.operands =
-        ap (node_casts registry schema op) p.children_typed ∙ ap (ruled_casts (types_of p.below)) p.rules in
+        let here : node_casts false registry schema op (typing_all registry schema children) ≡ operands_casts (types_of p.below) p.ruling.operands =
+        ap (node_casts false registry schema op) p.children_typed ∙ ap (ruled_casts (types_of p.below)) p.rules in
         omega (arith, tree_is, place, same, own, below, here)
 
-    all_written_need : (trees : Trees Op) (typed : List Typed) → typing_all registry schema trees ≡ Ok typed → all_counted registry schema cast_cost (all_inlined (coerced_all registry schema trees)) ≤ all_counted registry schema cast_cost trees + all_implicit_casts registry schema trees
+    all_written_need : (trees : Trees Op) (typed : List Typed) → typing_all registry schema trees ≡ Ok typed → all_counted registry schema cast_cost (all_inlined (coerced_all registry schema trees)) ≤ all_counted registry schema cast_cost trees + all_implicit_casts false registry schema trees
     all_written_need no_more typed h = omega arith
     all_written_need (more tree trees) typed h =
-        by_children (λ _. all_counted registry schema cast_cost (all_inlined (coerced_all registry schema (more tree trees))) ≤ all_counted registry schema cast_cost (more tree trees) + all_implicit_casts registry schema (more tree trees)) _ _ typed h (λ t ts first rest.
+        by_children (λ _. all_counted registry schema cast_cost (all_inlined (coerced_all registry schema (more tree trees))) ≤ all_counted registry schema cast_cost (more tree trees) + all_implicit_casts false registry schema (more tree trees)) _ _ typed h (λ t ts first rest.
         let own = written_needs tree t first in
         let below = all_written_need trees ts rest in
         omega (arith, own, below))
@@ -382,7 +386,7 @@ module _ (registry : Registry) (schema : Columns) where
 
   module _ (tree : Expression) (typed : Typed) (h : typing registry schema tree ≡ Ok typed) where
     -- has no more casts than it needs
-    pub written_casts : expression_casts (written_out registry schema tree) ≤ needed_casts registry schema tree
+    pub written_casts : expression_casts (written_out registry schema tree) ≤ needed_casts false registry schema tree
     written_casts =
         let whole = written_needs tree typed h in
         let before = casts_counted tree in
@@ -390,7 +394,7 @@ module _ (registry : Registry) (schema : Columns) where
         omega (arith, whole, before, after)
 
     -- no more other nodes than before
-    pub written_others : other_nodes (written_out registry schema tree) ≤ other_nodes tree
+    pub written_others : other_nodes false (written_out registry schema tree) ≤ other_nodes false tree
     written_others =
         let whole = written_counted registry schema other_cost others_cost tree typed h in
         let before = others_counted tree in
@@ -398,19 +402,22 @@ module _ (registry : Registry) (schema : Columns) where
         omega (arith, whole, before, after)
 
     -- and no more casts to a type that is there
-    pub written_idle : idle_casts registry schema (written_out registry schema tree) ≤ idle_casts registry schema tree
+    pub written_idle : idle_casts false registry schema (written_out registry schema tree) ≤ idle_casts false registry schema tree
     written_idle =
-        let whole = written_counted registry schema idle_cost idle_costs tree typed h in
-        let before = idle_counted tree in
-        let after = idle_counted (written_out registry schema tree) in
+        let whole = written_counted registry schema (idle_cost false) idle_costs tree typed h in
+        let before = idle_counted false tree in
+        let after = idle_counted false (written_out registry schema tree) in
         omega (arith, whole, before, after)
 
   -- a number at the top that gets a type is no cast, and one node
   pub settled_casts : (tree : Expression) → expression_casts (settled tree) ≡ expression_casts tree
   settled_casts tree = casts_counted (settled tree) ∙ settled_counted registry schema cast_cost casts_flat tree ∙ sym (casts_counted tree)
 
-  pub settled_others : (tree : Expression) → other_nodes (settled tree) ≡ other_nodes tree
-  settled_others tree = others_counted (settled tree) ∙ settled_counted registry schema other_cost others_cost.flat tree ∙ sym (others_counted tree)
+  module _ (write : Bool) where
+    pub settled_others : (tree : Expression) → other_nodes write (settled tree) ≡ other_nodes write tree
+    settled_others (node (AliasOp name) (more tree no_more)) = ap (λ n. own_nodes write (AliasOp name) 1 + sum (n ∷ [])) (settled_others tree)
+    settled_others (node (LiteralOp type value) children) = refl
+    settled_others (node op children) = refl
 
-  pub settled_idle : (tree : Expression) → idle_casts registry schema (settled tree) ≡ idle_casts registry schema tree
-  settled_idle tree = idle_counted (settled tree) ∙ settled_counted registry schema idle_cost idle_costs.flat tree ∙ sym (idle_counted tree)
+    pub settled_idle : (tree : Expression) → idle_casts write registry schema (settled tree) ≡ idle_casts write registry schema tree
+    settled_idle tree = idle_counted write (settled tree) ∙ settled_counted registry schema (idle_cost write) (idle_flat write) tree ∙ sym (idle_counted write tree)

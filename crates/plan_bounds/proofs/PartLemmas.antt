@@ -96,7 +96,7 @@ free_of_casts : (op : Op) → is_conjunction op ≡ true → (found : Result (Li
 free_of_casts (BinaryOp operator) e found = refl
 free_of_casts op e found = cc
 
-never_idle : (op : Op) → is_conjunction op ≡ true → (found : Result (List Typed) ErrorKind) → idle_cost op found ≡ zero
+never_idle : (op : Op) → is_conjunction op ≡ true → (found : Result (List Typed) ErrorKind) → idle_cost false op found ≡ zero
 never_idle (BinaryOp operator) e found = refl
 never_idle op e found = cc
 
@@ -105,34 +105,34 @@ split_casts predicate =
     counts_same expression_casts (counted [] [] cast_cost) (casts_counted [] []) (split_predicate predicate)
     ∙ split_has_all [] [] cast_cost free_of_casts predicate ∙ sym (casts_counted [] [] predicate.expression)
 
-pub split_nodes : (predicate : Named Expression) → in_all other_nodes (split_predicate predicate) ≤ other_nodes predicate.expression
+pub split_nodes : (predicate : Named Expression) → in_all (other_nodes false) (split_predicate predicate) ≤ other_nodes false predicate.expression
 split_nodes predicate =
-    let left = counts_same other_nodes (counted [] [] other_cost) (others_counted [] []) (split_predicate predicate) in
+    let left = counts_same (other_nodes false) (counted [] [] other_cost) (others_counted [] []) (split_predicate predicate) in
     let right = others_counted [] [] predicate.expression in
     let parts = split_counted [] [] other_cost predicate in
     omega (arith, left, right, parts)
 
-pub split_idle : (registry : Registry) (schema : Columns) (predicate : Named Expression) → in_all (idle_casts registry schema) (split_predicate predicate) ≡ idle_casts registry schema predicate.expression
+pub split_idle : (registry : Registry) (schema : Columns) (predicate : Named Expression) → in_all (idle_casts false registry schema) (split_predicate predicate) ≡ idle_casts false registry schema predicate.expression
 split_idle registry schema predicate =
-    counts_same (idle_casts registry schema) (counted registry schema idle_cost) (idle_counted registry schema) (split_predicate predicate)
-    ∙ split_has_all registry schema idle_cost never_idle predicate ∙ sym (idle_counted registry schema predicate.expression)
+    counts_same (idle_casts false registry schema) (counted registry schema (idle_cost false)) (idle_counted registry schema false) (split_predicate predicate)
+    ∙ split_has_all registry schema (idle_cost false) never_idle predicate ∙ sym (idle_counted registry schema false predicate.expression)
 
 -- ---- a filter for each part
 
 module _ (registry : Registry) (schema : Columns) where
   abbrev IsSized : List Expression → Expression → Type 0
-  IsSized parts tree = sum_by other_nodes parts + length parts ≤ other_nodes tree + 1
+  IsSized parts tree = sum_by (other_nodes false) parts + length parts ≤ other_nodes false tree + 1
 
   whole_sized : (tree : Expression) → IsSized (tree ∷ []) tree
-  whole_sized tree = let own = one_alone other_nodes tree in omega (arith, own)
+  whole_sized tree = let own = one_alone (other_nodes false) tree in omega (arith, own)
 
   pair_sized : (op : Op) (left right : Expression) (operator : Operator) → op ≡ BinaryOp operator → IsSized (conjuncts left) left → IsSized (conjuncts right) right → IsSized (conjuncts left ++ (conjuncts right ++ [])) (node op (more left (more right no_more)))
   pair_sized op left right operator op_is l r =
-      let both = sum_by-append other_nodes (conjuncts left) (conjuncts right ++ []) in
-      let last = sum_by-append other_nodes (conjuncts right) [] in
+      let both = sum_by-append (other_nodes false) (conjuncts left) (conjuncts right ++ []) in
+      let last = sum_by-append (other_nodes false) (conjuncts right) [] in
       let lengths = length-append (conjuncts left) (conjuncts right ++ []) in
       let last_length = length-append (conjuncts right) [] in
-      let nodes = ap (λ o. other_nodes (node o (more left (more right no_more)))) op_is in
+      let nodes = ap (λ o. other_nodes false (node o (more left (more right no_more)))) op_is in
       omega (arith, l, r, both, last, lengths, last_length, nodes)
 
   parts_sized : (tree : Expression) → IsCondition registry schema tree → IsSized (conjuncts tree) tree
@@ -151,10 +151,10 @@ module _ (registry : Registry) (schema : Columns) where
         | false ↦ λ e. whole_sized (node op children)
       ] refl
 
-  pub split_size : (predicate : Named Expression) → IsCondition registry schema predicate.expression → in_all other_nodes (split_predicate predicate) + length (split_predicate predicate) ≤ other_nodes predicate.expression + 1
+  pub split_size : (predicate : Named Expression) → IsCondition registry schema predicate.expression → in_all (other_nodes false) (split_predicate predicate) + length (split_predicate predicate) ≤ other_nodes false predicate.expression + 1
   split_size predicate c =
-      let alone = sum_by-cons (λ (x : Named Expression). other_nodes x.expression) predicate [] in
-      let named = under_own_names other_nodes (conjuncts predicate.expression) in
+      let alone = sum_by-cons (λ (x : Named Expression). other_nodes false x.expression) predicate [] in
+      let named = under_own_names (other_nodes false) (conjuncts predicate.expression) in
       let lengths = length-map (conjuncts predicate.expression) own_named in
       let parts = parts_sized predicate.expression c in
-      elim (permits_pushdown predicate.expression) as (λ b. in_all other_nodes (cond b (map own_named (conjuncts predicate.expression)) (predicate ∷ [])) + length (cond b (map own_named (conjuncts predicate.expression)) (predicate ∷ [])) ≤ other_nodes predicate.expression + 1) [ true ↦ omega (arith, named, lengths, parts) | false ↦ omega (arith, alone) ]
+      elim (permits_pushdown predicate.expression) as (λ b. in_all (other_nodes false) (cond b (map own_named (conjuncts predicate.expression)) (predicate ∷ [])) + length (cond b (map own_named (conjuncts predicate.expression)) (predicate ∷ [])) ≤ other_nodes false predicate.expression + 1) [ true ↦ omega (arith, named, lengths, parts) | false ↦ omega (arith, alone) ]

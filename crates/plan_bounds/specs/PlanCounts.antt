@@ -1,6 +1,6 @@
 -- How many casts a query's plan needs, and how large a plan is.
 -- Expressions are counted over the schema of the input over which they are typed, and not where that has none.
-use Rattle.std.specs.Prelude.{ℕ, ◌+◌, List, Option, Some, None, sum, sum_by}
+use Rattle.std.specs.Prelude.{ℕ, ◌+◌, Bool, List, Option, Some, None, sum, sum_by}
 use Rattle.plan_types.specs.Schemas.{Columns}
 use Rattle.plan_dsl.specs.Literals.{settled}
 use Rattle.plan_dsl.specs.Ops.{Expression}
@@ -29,19 +29,19 @@ module _ (count : Registry → Columns → Expression → ℕ) (registry : Regis
     in_plans (more plan rest) = in_plan plan + in_plans rest
 
 -- those that an expression needs as a plan's node takes it
-abbrev pub settled_needs : Registry → Columns → Expression → ℕ
-settled_needs registry schema tree = needed_casts registry schema (settled tree)
+abbrev pub settled_needs : Bool → Registry → Columns → Expression → ℕ
+settled_needs write registry schema tree = needed_casts write registry schema (settled tree)
 
--- the casts that a plan needs, and its casts to the type that is there
-abbrev pub plan_needs : Registry → Plan → ℕ
-plan_needs = in_plan settled_needs
+-- the casts that a plan needs, and its casts to the type that is there, as it stands or with its horizontals written out
+abbrev pub plan_needs : Bool → Registry → Plan → ℕ
+plan_needs write = in_plan (settled_needs write)
 
-abbrev pub plan_idle : Registry → Plan → ℕ
-plan_idle = in_plan idle_casts
+abbrev pub plan_idle : Bool → Registry → Plan → ℕ
+plan_idle write = in_plan (idle_casts write)
 
 -- a plan's nodes, and those of its expressions but for casts
-abbrev pub plan_size_step : PlanOp (Named Expression) → List ℕ → ℕ
-plan_size_step op below = 1 + sum_by (λ e. in_all other_nodes e.outputs) (expressions_of op.kind) + sum below
+abbrev pub plan_size_step : Bool → PlanOp (Named Expression) → List ℕ → ℕ
+plan_size_step write op below = 1 + sum_by (λ e. in_all (other_nodes write) e.outputs) (expressions_of op.kind) + sum below
 
-abbrev pub plan_size : Plan → ℕ
-plan_size plan = fold plan_size_step plan
+abbrev pub plan_size : Bool → Plan → ℕ
+plan_size write plan = fold (plan_size_step write) plan

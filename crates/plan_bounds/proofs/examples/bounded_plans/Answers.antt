@@ -1,4 +1,4 @@
-use Rattle.std.proofs.Common.{◌≡◌, [], ◌∷◌, refl, arith}
+use Rattle.std.proofs.Common.{◌≡◌, true, false, [], ◌∷◌, refl, arith}
 use Rattle.plan_dsl.specs.declared.operator.Operator.TheVariants.{Plus}
 use Rattle.plan_dsl.specs.Counts.{cast_count}
 use Rattle.plan_dsl.specs.Plans.{Plan}
@@ -12,10 +12,10 @@ use Rattle.plan_bounds.proofs.examples.bounded_plans.Goals as goal
 abbrev source : Plan
 source = select (sum ∷ []) (scan schema_ab)
 
-needs : plan_needs [] source ≡ 1
+needs : plan_needs true [] source ≡ 1
 needs = refl
 
-size : plan_size source ≡ 5
+size : plan_size true source ≡ 5
 size = refl
 
 pub returns-clause-itself : goal.returns-clause-itself
@@ -25,16 +25,16 @@ pub returns-clause-sum : goal.returns-clause-sum
 returns-clause-sum c =
     let lowered : Plan = select (strict_sum ∷ []) (scan schema_ab) in
     let casts : cast_count lowered ≡ 1 = refl in
-    let idle : plan_idle [] lowered ≡ 0 = refl in
-    let nodes : plan_size lowered ≡ 5 = refl in
+    let idle : plan_idle false [] lowered ≡ 0 = refl in
+    let nodes : plan_size false lowered ≡ 5 = refl in
     record { casts = omega (arith, casts, needs); idle = omega (arith, idle); size = omega (arith, nodes, size) }
 
 pub returns-clause-smaller : goal.returns-clause-smaller
 returns-clause-smaller c =
     let lowered : Plan = select (a ∷ []) (scan schema_ab) in
     let casts : cast_count lowered ≡ 0 = refl in
-    let idle : plan_idle [] lowered ≡ 0 = refl in
-    let nodes : plan_size lowered ≡ 3 = refl in
+    let idle : plan_idle false [] lowered ≡ 0 = refl in
+    let nodes : plan_size false lowered ≡ 3 = refl in
     record { casts = omega (arith, casts); idle = omega (arith, idle); size = omega (arith, nodes, size) }
 
 pub returns-clause-both_casts : goal.returns-clause-both_casts
@@ -45,14 +45,14 @@ returns-clause-both_casts c = λ bounded.
 
 pub returns-clause-idle_cast : goal.returns-clause-idle_cast
 returns-clause-idle_cast c = λ bounded.
-    let own : plan_idle [] (select (cast_to int8 a ∷ []) (scan schema_ab)) ≡ 1 = refl in
-    let none : plan_idle [] source ≡ 0 = refl in
+    let own : plan_idle false [] (select (cast_to int8 a ∷ []) (scan schema_ab)) ≡ 1 = refl in
+    let none : plan_idle true [] source ≡ 0 = refl in
     let most = bounded.idle in
     absurd (omega (arith, most, own, none))
 
 pub returns-clause-further_node : goal.returns-clause-further_node
 returns-clause-further_node c = λ bounded.
-    let own : plan_size (select (a ∷ []) (scan schema_ab)) ≡ 3 = refl in
-    let one : plan_size (scan schema_ab) ≡ 1 = refl in
+    let own : plan_size false (select (a ∷ []) (scan schema_ab)) ≡ 3 = refl in
+    let one : plan_size true (scan schema_ab) ≡ 1 = refl in
     let most = bounded.size in
     absurd (omega (arith, most, own, one))
