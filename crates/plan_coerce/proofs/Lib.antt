@@ -7,6 +7,7 @@ pub mod CountLemmas
 pub mod ExampleLemmas
 pub mod FrameLemmas
 pub mod InliningLemmas
+pub mod LoopLemmas
 pub mod ManyRootLemmas
 pub mod NameLemmas
 pub mod NearLemmas

@@ -1,5 +1,5 @@
 -- What coercion by a rule leaves of two arenas, from roots on.
-use Rattle.std.specs.Prelude.{◌≡◌, ◌⊎◌, ℕ, ℤ, Bool, true, List, [], ◌∷◌, ◌++◌, map, reverse, slice_get, Option, Some, option_map, unwrap_or, Ok}
+use Rattle.std.specs.Prelude.{◌≡◌, ◌⊎◌, ◌≤◌, ◌+◌, ◌*◌, ℕ, ℤ, Bool, true, List, [], ◌∷◌, ◌++◌, length, map, reverse, slice_get, Option, Some, option_map, unwrap_or, Ok}
 use Rattle.std.specs.List.{AllByRecursion}
 use Rattle.plan_types.specs.Errors.{IsRefusal, no_memory}
 use Rattle.plan_types.specs.Types.{Untyped, is_known}
@@ -16,6 +16,8 @@ use Rattle.plan_arena.specs.declared.aexpr.AExpr.{AExpr}
 use Rattle.plan_arena.specs.declared.ir.IR.{IR}
 use Rattle.plan_arena.specs.Denotation.{Denotes, DenotesTree}
 use Rattle.plan_arena.specs.Items.{HoldsExpression, expression_layer, numbers, passed}
+use Rattle.plan_infer.specs.declared.type_table.TypeTable.{TypeTable}
+use Rattle.plan_infer.specs.KeptTypes.{IsRight}
 use Rattle.plan_coerce.specs.declared.stack_opt.ConversionOptimizer.{ConversionOptimizer}
 use Rattle.plan_coerce.specs.Coercion.{KeepsBelow}
 use Rattle.plan_coerce.specs.InlinedCasts.{written_out}
@@ -166,6 +168,26 @@ pub record IsCoercionRefusal (settled : Expression → Bool) (turns : Option ℕ
   pub cause : (error ≡ no_memory) ⊎ IsRefusedAt turns registry schema old new roots error
   pub typed : AreTypedRoots settled registry schema old roots → error ≡ no_memory
   pub numbers : (n : ℕ) → turns ≡ Some n → SettlesNoNumber settled registry schema → AreRoots settled registry schema old roots → error ≡ no_memory
+
+-- What the loop over a rule leaves, from roots on, whatever it answers: of the arena what nodes denote, and what the roots
+-- don't reach; of the table what is kept; of the steps their count.
+pub record LoopLeaves (is_settled : Expression → Bool) (related : Expression → Expression → Type 0) (turns : Option ℕ) (registry : Registry) (schema : Columns) (old new : List AExpr) (roots : List ℕ) (table : TypeTable) (before after : ℕ) : Type 0 where
+  pub typed : StaysLikeTyped is_settled related turns registry schema old new roots
+  pub like : AreTypedRoots is_settled registry schema old roots → StaysLike related registry schema old new
+  pub beside : (n : ℕ) → turns ≡ Some n → SettlesNoNumber is_settled registry schema → AreRoots is_settled registry schema old roots → StaysLikeBeside related registry schema old new roots
+  pub finite : StaysFinite old new
+  pub elsewhere : (n : ℕ) → turns ≡ Some n → StaysApart old new roots
+  pub reaches : (n : ℕ) → turns ≡ Some n → ReachesNear old new roots
+  pub longer : length old ≤ length new
+  pub right : IsRight registry schema new table
+  pub bounded : (n : ℕ) → turns ≡ Some n → AreApart old roots → after ≤ before + (2 * n + 2) * length new
+
+-- What it has done of the roots where it answers Ok.
+pub record LoopEnds (is_settled : Expression → Bool) (related : Expression → Expression → Type 0) (turns : Option ℕ) (registry : Registry) (schema : Columns) (old new : List AExpr) (roots : List ℕ) : Type 0 where
+  pub roots_typed : AllByRecursion (HasTyping registry schema old) roots
+  pub settled : AllByRecursion (DenotesSettled is_settled new) roots
+  pub alone : TypesNumber is_settled related registry schema old new roots
+  pub ends : (n : ℕ) → turns ≡ Some n → SettlesNoNumber is_settled registry schema → AreRoots is_settled registry schema old roots → AllByRecursion (EndsSettled is_settled related registry schema old new) roots
 
 -- where the plan's node is a filter, the schema is the one that goes into it
 abbrev pub StaysOver : Registry → List AExpr → List IR → ℕ → Columns → Type 0

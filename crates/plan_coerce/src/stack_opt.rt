@@ -11,7 +11,7 @@ ghost use Rattle.plan_arena.specs.Denotation.{Denotes, DenotesTree};
 ghost use Rattle.plan_arena.specs.Items.{Grows, HoldsExpression, expression_layer, named_node, numbers};
 ghost use Rattle.plan_arena.specs.Layers.{inputs_of};
 ghost use Rattle.plan_infer.specs.KeptTypes.{IsRight};
-ghost use Rattle.plan_coerce.specs.Optimizer.{AreApart, AreRoots, AreTrees, AreTypedRoots, DenotesSettled, EndsSettled, HasTyping, IsCoercionRefusal, IsPlanTurn, ReachesNear, StaysApart, StaysFinite, StaysLike, StaysLikeBeside, StaysLikeTyped, StaysOver, TypesNumber, all_with_inputs, roots_of, stacked, with_inputs};
+ghost use Rattle.plan_coerce.specs.Optimizer.{AreTrees, HasTyping, IsCoercionRefusal, IsPlanTurn, LoopEnds, LoopLeaves, StaysOver, all_with_inputs, roots_of, stacked, with_inputs};
 ghost use Rattle.plan_coerce.specs.Reaching.{Among};
 ghost use Rattle.plan_coerce.specs.Rules.{HasUncheckedInputs, KeepsNumber, RefusesPredicate, SettlesNoNumber, StandsOver};
 ghost use Rattle.plan_coerce.specs.Turns.{IsStopped, IsTurn};
@@ -175,22 +175,8 @@ impl ConversionOptimizer {
     ) -> Result<(), PlanError>
         requires trees { AreTrees expr_arena.old (roots_of self.old) }
         requires right { IsRight (registry udfs.now) (columns schema.now) expr_arena.old types.old }
-        ensures typed { StaysLikeTyped (R.settled rule.now (registry udfs.now) (columns schema.now)) (R.related rule.now (registry udfs.now) (columns schema.now)) (R.turns rule.now) (registry udfs.now) (columns schema.now) expr_arena.old expr_arena.new (roots_of self.old) }
-        ensures like { AreTypedRoots (R.settled rule.now (registry udfs.now) (columns schema.now)) (registry udfs.now) (columns schema.now) expr_arena.old (roots_of self.old) → StaysLike (R.related rule.now (registry udfs.now) (columns schema.now)) (registry udfs.now) (columns schema.now) expr_arena.old expr_arena.new }
-        ensures roots_typed { OnOk result (AllByRecursion (HasTyping (registry udfs.now) (columns schema.now) expr_arena.old) (roots_of self.old)) }
-        ensures settled { OnOk result (AllByRecursion (DenotesSettled (R.settled rule.now (registry udfs.now) (columns schema.now)) expr_arena.new) (roots_of self.old)) }
-        ensures alone { OnOk result (TypesNumber (R.settled rule.now (registry udfs.now) (columns schema.now)) (R.related rule.now (registry udfs.now) (columns schema.now)) (registry udfs.now) (columns schema.now) expr_arena.old expr_arena.new (roots_of self.old)) }
-        ensures beside { (n : ℕ) → R.turns rule.now ≡ Some n → SettlesNoNumber (R.settled rule.now (registry udfs.now) (columns schema.now)) (registry udfs.now) (columns schema.now) → AreRoots (R.settled rule.now (registry udfs.now) (columns schema.now)) (registry udfs.now) (columns schema.now) expr_arena.old (roots_of self.old) →
-            StaysLikeBeside (R.related rule.now (registry udfs.now) (columns schema.now)) (registry udfs.now) (columns schema.now) expr_arena.old expr_arena.new (roots_of self.old) }
-        ensures ends { OnOk result ((n : ℕ) → R.turns rule.now ≡ Some n → SettlesNoNumber (R.settled rule.now (registry udfs.now) (columns schema.now)) (registry udfs.now) (columns schema.now) → AreRoots (R.settled rule.now (registry udfs.now) (columns schema.now)) (registry udfs.now) (columns schema.now) expr_arena.old (roots_of self.old) →
-            AllByRecursion (EndsSettled (R.settled rule.now (registry udfs.now) (columns schema.now)) (R.related rule.now (registry udfs.now) (columns schema.now)) (registry udfs.now) (columns schema.now) expr_arena.old expr_arena.new) (roots_of self.old)) }
-        ensures finite { StaysFinite expr_arena.old expr_arena.new }
-        ensures elsewhere { (n : ℕ) → R.turns rule.now ≡ Some n → StaysApart expr_arena.old expr_arena.new (roots_of self.old) }
-        ensures reaches { (n : ℕ) → R.turns rule.now ≡ Some n → ReachesNear expr_arena.old expr_arena.new (roots_of self.old) }
-        ensures longer { length expr_arena.old ≤ length expr_arena.new }
-        ensures right { IsRight (registry udfs.now) (columns schema.now) expr_arena.new types.new }
-        ensures bounded { (n : ℕ) → R.turns rule.now ≡ Some n → AreApart expr_arena.old (roots_of self.old) →
-            steps.new ≤ steps.old + (2 * n + 2) * length expr_arena.new }
+        ensures leaves { LoopLeaves (R.settled rule.now (registry udfs.now) (columns schema.now)) (R.related rule.now (registry udfs.now) (columns schema.now)) (R.turns rule.now) (registry udfs.now) (columns schema.now) expr_arena.old expr_arena.new (roots_of self.old) types.new steps.old steps.new }
+        ensures done { OnOk result (LoopEnds (R.settled rule.now (registry udfs.now) (columns schema.now)) (R.related rule.now (registry udfs.now) (columns schema.now)) (R.turns rule.now) (registry udfs.now) (columns schema.now) expr_arena.old expr_arena.new (roots_of self.old)) }
         ensures no_roots { roots_of self.new ≡ [] }
         ensures none_stacked { stacked self.new ≡ [] }
         ensures err { IfErr result (λ error. IsCoercionRefusal (R.settled rule.now (registry udfs.now) (columns schema.now)) (R.turns rule.now) (registry udfs.now) (columns schema.now) expr_arena.old expr_arena.new (roots_of self.old) error) }
@@ -228,22 +214,8 @@ impl ConversionOptimizer {
         requires over { StaysOver (registry udfs.now) expr_arena.old lp_arena.old node.0 (columns schema.now) }
         requires trees { AreTrees expr_arena.old (roots_of self.old) }
         requires right { IsRight (registry udfs.now) (columns schema.now) expr_arena.old types.old }
-        ensures typed { StaysLikeTyped (R.settled rule.now (registry udfs.now) (columns schema.now)) (R.related rule.now (registry udfs.now) (columns schema.now)) (R.turns rule.now) (registry udfs.now) (columns schema.now) expr_arena.old expr_arena.new (roots_of self.old) }
-        ensures like { AreTypedRoots (R.settled rule.now (registry udfs.now) (columns schema.now)) (registry udfs.now) (columns schema.now) expr_arena.old (roots_of self.old) → StaysLike (R.related rule.now (registry udfs.now) (columns schema.now)) (registry udfs.now) (columns schema.now) expr_arena.old expr_arena.new }
-        ensures roots_typed { OnOk result (AllByRecursion (HasTyping (registry udfs.now) (columns schema.now) expr_arena.old) (roots_of self.old)) }
-        ensures settled { OnOk result (AllByRecursion (DenotesSettled (R.settled rule.now (registry udfs.now) (columns schema.now)) expr_arena.new) (roots_of self.old)) }
-        ensures alone { OnOk result (TypesNumber (R.settled rule.now (registry udfs.now) (columns schema.now)) (R.related rule.now (registry udfs.now) (columns schema.now)) (registry udfs.now) (columns schema.now) expr_arena.old expr_arena.new (roots_of self.old)) }
-        ensures beside { (n : ℕ) → R.turns rule.now ≡ Some n → SettlesNoNumber (R.settled rule.now (registry udfs.now) (columns schema.now)) (registry udfs.now) (columns schema.now) → AreRoots (R.settled rule.now (registry udfs.now) (columns schema.now)) (registry udfs.now) (columns schema.now) expr_arena.old (roots_of self.old) →
-            StaysLikeBeside (R.related rule.now (registry udfs.now) (columns schema.now)) (registry udfs.now) (columns schema.now) expr_arena.old expr_arena.new (roots_of self.old) }
-        ensures ends { OnOk result ((n : ℕ) → R.turns rule.now ≡ Some n → SettlesNoNumber (R.settled rule.now (registry udfs.now) (columns schema.now)) (registry udfs.now) (columns schema.now) → AreRoots (R.settled rule.now (registry udfs.now) (columns schema.now)) (registry udfs.now) (columns schema.now) expr_arena.old (roots_of self.old) →
-            AllByRecursion (EndsSettled (R.settled rule.now (registry udfs.now) (columns schema.now)) (R.related rule.now (registry udfs.now) (columns schema.now)) (registry udfs.now) (columns schema.now) expr_arena.old expr_arena.new) (roots_of self.old)) }
-        ensures finite { StaysFinite expr_arena.old expr_arena.new }
-        ensures elsewhere { (n : ℕ) → R.turns rule.now ≡ Some n → StaysApart expr_arena.old expr_arena.new (roots_of self.old) }
-        ensures reaches { (n : ℕ) → R.turns rule.now ≡ Some n → ReachesNear expr_arena.old expr_arena.new (roots_of self.old) }
-        ensures longer { length expr_arena.old ≤ length expr_arena.new }
-        ensures right { IsRight (registry udfs.now) (columns schema.now) expr_arena.new types.new }
-        ensures bounded { (n : ℕ) → R.turns rule.now ≡ Some n → AreApart expr_arena.old (roots_of self.old) →
-            steps.new ≤ steps.old + (2 * n + 2) * length expr_arena.new }
+        ensures leaves { LoopLeaves (R.settled rule.now (registry udfs.now) (columns schema.now)) (R.related rule.now (registry udfs.now) (columns schema.now)) (R.turns rule.now) (registry udfs.now) (columns schema.now) expr_arena.old expr_arena.new (roots_of self.old) types.new steps.old steps.new }
+        ensures done { OnOk result (LoopEnds (R.settled rule.now (registry udfs.now) (columns schema.now)) (R.related rule.now (registry udfs.now) (columns schema.now)) (R.turns rule.now) (registry udfs.now) (columns schema.now) expr_arena.old expr_arena.new (roots_of self.old)) }
         ensures no_roots { roots_of self.new ≡ [] }
         ensures none_stacked { stacked self.new ≡ [] }
         ensures plans { (n : ℕ) → n ≢ node.0 → slice_get lp_arena.new n ≡ slice_get lp_arena.old n }
@@ -338,22 +310,8 @@ fn coerce_stacked<R: OptimizationRule, M: Ledger, L: Ledger>(
 ) -> Result<(), PlanError>
     requires trees { AreTrees arena.old (numbers stack.old.items) }
     requires right { IsRight (registry udfs.now) (columns schema.now) arena.old types.old }
-    ensures typed { StaysLikeTyped (R.settled rule.now (registry udfs.now) (columns schema.now)) (R.related rule.now (registry udfs.now) (columns schema.now)) (R.turns rule.now) (registry udfs.now) (columns schema.now) arena.old arena.new (numbers stack.old.items) }
-    ensures like { AreTypedRoots (R.settled rule.now (registry udfs.now) (columns schema.now)) (registry udfs.now) (columns schema.now) arena.old (numbers stack.old.items) → StaysLike (R.related rule.now (registry udfs.now) (columns schema.now)) (registry udfs.now) (columns schema.now) arena.old arena.new }
-    ensures roots_typed { OnOk result (AllByRecursion (HasTyping (registry udfs.now) (columns schema.now) arena.old) (numbers stack.old.items)) }
-    ensures settled { OnOk result (AllByRecursion (DenotesSettled (R.settled rule.now (registry udfs.now) (columns schema.now)) arena.new) (numbers stack.old.items)) }
-    ensures alone { OnOk result (TypesNumber (R.settled rule.now (registry udfs.now) (columns schema.now)) (R.related rule.now (registry udfs.now) (columns schema.now)) (registry udfs.now) (columns schema.now) arena.old arena.new (numbers stack.old.items)) }
-    ensures beside { (n : ℕ) → R.turns rule.now ≡ Some n → SettlesNoNumber (R.settled rule.now (registry udfs.now) (columns schema.now)) (registry udfs.now) (columns schema.now) → AreRoots (R.settled rule.now (registry udfs.now) (columns schema.now)) (registry udfs.now) (columns schema.now) arena.old (numbers stack.old.items) →
-        StaysLikeBeside (R.related rule.now (registry udfs.now) (columns schema.now)) (registry udfs.now) (columns schema.now) arena.old arena.new (numbers stack.old.items) }
-    ensures ends { OnOk result ((n : ℕ) → R.turns rule.now ≡ Some n → SettlesNoNumber (R.settled rule.now (registry udfs.now) (columns schema.now)) (registry udfs.now) (columns schema.now) → AreRoots (R.settled rule.now (registry udfs.now) (columns schema.now)) (registry udfs.now) (columns schema.now) arena.old (numbers stack.old.items) →
-        AllByRecursion (EndsSettled (R.settled rule.now (registry udfs.now) (columns schema.now)) (R.related rule.now (registry udfs.now) (columns schema.now)) (registry udfs.now) (columns schema.now) arena.old arena.new) (numbers stack.old.items)) }
-    ensures finite { StaysFinite arena.old arena.new }
-    ensures elsewhere { (n : ℕ) → R.turns rule.now ≡ Some n → StaysApart arena.old arena.new (numbers stack.old.items) }
-    ensures reaches { (n : ℕ) → R.turns rule.now ≡ Some n → ReachesNear arena.old arena.new (numbers stack.old.items) }
-    ensures longer { length arena.old ≤ length arena.new }
-    ensures right { IsRight (registry udfs.now) (columns schema.now) arena.new types.new }
-    ensures bounded { (n : ℕ) → R.turns rule.now ≡ Some n → AreApart arena.old (numbers stack.old.items) →
-        steps.new ≤ steps.old + (2 * n + 2) * length arena.new }
+    ensures leaves { LoopLeaves (R.settled rule.now (registry udfs.now) (columns schema.now)) (R.related rule.now (registry udfs.now) (columns schema.now)) (R.turns rule.now) (registry udfs.now) (columns schema.now) arena.old arena.new (numbers stack.old.items) types.new steps.old steps.new }
+    ensures done { OnOk result (LoopEnds (R.settled rule.now (registry udfs.now) (columns schema.now)) (R.related rule.now (registry udfs.now) (columns schema.now)) (R.turns rule.now) (registry udfs.now) (columns schema.now) arena.old arena.new (numbers stack.old.items)) }
     ensures err { IfErr result (λ error. IsCoercionRefusal (R.settled rule.now (registry udfs.now) (columns schema.now)) (R.turns rule.now) (registry udfs.now) (columns schema.now) arena.old arena.new (numbers stack.old.items) error) }
 {
     type_nodes(stack.as_slice(), schema, arena, udfs, types, typings)?;

@@ -16,10 +16,10 @@ pub returns-clause-relaxed : goal.returns-clause-relaxed
 returns-clause-relaxed g c =
     let done = c.coerce_expressions.ensures in
     let root = typed_root c.requires.right c.requires.kept c.in_ok-optimizer.ensures.ok in
-    on_ok_weaker c.coerce_expressions.result (λ settled. relaxed_roots c.requires.right c.requires.kept c.in_ok-optimizer.ensures.ok (done.like root) settled) done.settled
+    on_ok_weaker c.coerce_expressions.result (λ ends. relaxed_roots c.requires.right c.requires.kept c.in_ok-optimizer.ensures.ok (done.leaves.like root) ends.settled) done.done
 
 pub returns-clause-like : goal.returns-clause-like
-returns-clause-like g c = c.coerce_expressions.ensures.like (typed_root c.requires.right c.requires.kept c.in_ok-optimizer.ensures.ok)
+returns-clause-like g c = c.coerce_expressions.ensures.leaves.like (typed_root c.requires.right c.requires.kept c.in_ok-optimizer.ensures.ok)
 
 pub returns-clause-err : goal.returns-clause-err
 returns-clause-err g c =

@@ -1,4 +1,5 @@
 use Rattle.std.proofs.Common.{◌+◌, ◌*◌, ◌∙◌, ◌∷◌, reverse, refl, sym, ap, subst, arith, inl, inr, ⊎_elim}
+use Rattle.std.specs.List.{AllByRecursion}
 use Rattle.plan_types.specs.Schemas.{columns}
 use Rattle.plan_dsl.specs.Registry.{registry}
 use Rattle.plan_arena.specs.Denotation.{DenotesTree}
@@ -7,18 +8,19 @@ use Rattle.plan_arena.proofs.DenotationLemmas.{kept}
 use Rattle.plan_arena.proofs.ItemLemmas.{grown_held}
 use Rattle.plan_arena.proofs.NumberLemmas.{all_joined, all_reversed, all_weaker}
 use Rattle.plan_types.proofs.ResultLemmas.{passed_on}
-use Rattle.plan_coerce.specs.Optimizer.{AreTrees, IsCoercionRefusal}
+use Rattle.plan_coerce.specs.Optimizer.{AreTrees, HasTyping, IsCoercionRefusal}
 use Rattle.plan_coerce.specs.Reaching.{Among}
 use Rattle.plan_coerce.proofs.AnyRootLemmas.{Settling, settling_end, settling_start, settling_turn}
-use Rattle.plan_coerce.proofs.CountLemmas.{Counted, counted_end, counted_start, counted_stops, counted_turn}
-use Rattle.plan_coerce.proofs.NearLemmas.{Keeping, here_near, keeping_end, keeping_start, keeping_stops, keeping_turn, stops_apart, waiting_turn}
+use Rattle.plan_coerce.proofs.CountLemmas.{Counted, counted_start, counted_stops, counted_turn}
+use Rattle.plan_coerce.proofs.LoopLemmas.{nothing_done, turns_done}
+use Rattle.plan_coerce.proofs.NearLemmas.{Keeping, here_near, keeping_start, keeping_stops, keeping_turn, stops_apart, waiting_turn}
 use Rattle.plan_coerce.proofs.NumberRootLemmas.{Alone, alone_end, alone_turn, waits}
 use Rattle.plan_coerce.proofs.StackLemmas.{no_numbers, pushed_one}
-use Rattle.plan_coerce.proofs.TurnLemmas.{Pending, memory_alone, like_itself, no_memory_left, pending_start, pending_stops, pending_turn, stopped_finite, stopped_longer, top_first, turn_stopped}
+use Rattle.plan_coerce.proofs.TurnLemmas.{Pending, memory_alone, no_memory_left, pending_start, pending_stops, pending_turn, stopped_finite, stopped_longer, top_first, turn_stopped}
 use Rattle.plan_coerce.proofs.TypedRootLemmas.{root_refused}
 use Rattle.plan_coerce.proofs.ManyRootLemmas.{Working, working_end, working_start, working_stops, working_turn, working_typed}
 use Rattle.plan_coerce.proofs.ReachLemmas.{among_all}
-use Rattle.plan_coerce.proofs.TypedNodeLemmas.{Standing, standing_start, standing_turn, stays_typed, stops_typed}
+use Rattle.plan_coerce.proofs.TypedNodeLemmas.{Standing, standing_start, standing_turn, stops_typed}
 use Rattle.plan_coerce.proofs.stack_opt.coerce_stacked.Goals as goal
 
 pub loop-turn-init : goal.loop-turn-init
@@ -84,37 +86,57 @@ loop-turn-preserved g c =
       counted = λ n e apart. counted_turn measure n (2 * n + 2) refl settled related turns e r s (λ t. laws.bounded c.args.rule.now r s t n e) c.loop-turn.arena c.visit.new.arena at rest (numbers c.visit.new.stack.items) c.args.steps.now c.loop-turn.steps c.visit.new.steps turn (subst (λ l. Counted measure n (2 * n + 2) c.loop-turn.arena l c.args.steps.now c.loop-turn.steps) popped (inv.counted n e apart));
     }
 
-pub returns-in-None-clause-settled : goal.returns-in-None-clause-settled
-returns-in-None-clause-settled g c =
+pub returns-in_err-type_nodes-clause-leaves : goal.returns-in_err-type_nodes-clause-leaves
+returns-in_err-type_nodes-clause-leaves g c =
     let r = registry c.args.udfs.now in
     let s = columns c.args.schema.now in
-    let settled = g.R.OptimizationRule.settled c.args.rule.now r s in
-    let roots = numbers c.args.stack.now.items in
-    let none = ap reverse (no_numbers c.loop-turn.stack.items c.in-None.ensures.variant.1) in
-    settling_end settled r s c.loop-turn.arena roots (subst (λ l. Settling settled r s c.loop-turn.arena l roots) none c.loop-turn.invariant.settling)
+    let rule = g.R.OptimizationRule in
+    nothing_done (rule.settled c.args.rule.now r s) (rule.related c.args.rule.now r s) (rule.turns c.args.rule.now) r s (g.met.R.OptimizationRule.congruent c.args.rule.now r s) c.args.arena.now (numbers c.args.stack.now.items) c.type_nodes.new.types c.args.steps.now c.in_err-type_nodes.ensures.right
 
-pub returns-in-None-clause-bounded : goal.returns-in-None-clause-bounded
-returns-in-None-clause-bounded g c = λ n e apart.
-    counted_end (g.R.OptimizationRule.measure c.args.rule.now (registry c.args.udfs.now) (columns c.args.schema.now)) n (2 * n + 2) refl c.loop-turn.arena (reverse (numbers c.loop-turn.stack.items)) c.args.steps.now c.loop-turn.steps (c.loop-turn.invariant.counted n e apart)
-
-pub returns-clause-reaches : goal.returns-clause-reaches
-returns-clause-reaches g c = λ n e.
-    keeping_end c.args.arena.now (numbers c.args.stack.now.items) c.loop-turn.arena (reverse (numbers c.loop-turn.stack.items)) (c.loop-turn.invariant.keeping n e)
-
-pub returns-clause-bounded : goal.returns-clause-bounded
-returns-clause-bounded g c = λ n e apart.
-    counted_end (g.R.OptimizationRule.measure c.args.rule.now (registry c.args.udfs.now) (columns c.args.schema.now)) n (2 * n + 2) refl c.loop-turn.arena (reverse (numbers c.loop-turn.stack.items)) c.args.steps.now c.loop-turn.steps (c.loop-turn.invariant.counted n e apart)
-
-pub returns-clause-err : goal.returns-clause-err
-returns-clause-err g c =
+pub returns-in_err-type_nodes-clause-err : goal.returns-in_err-type_nodes-clause-err
+returns-in_err-type_nodes-clause-err g c =
     let r = registry c.args.udfs.now in
     let s = columns c.args.schema.now in
-    let settled = g.R.OptimizationRule.settled c.args.rule.now r s in
+    let rule = g.R.OptimizationRule in
     let roots = numbers c.args.stack.now.items in
-    subst (IsCoercionRefusal settled (g.R.OptimizationRule.turns c.args.rule.now) r s c.args.arena.now c.loop-turn.arena roots) (sym c.at_top.ensures) (no_memory_left settled (g.R.OptimizationRule.turns c.args.rule.now) r s c.args.arena.now c.loop-turn.arena roots)
+    let refused = c.in_err-type_nodes.ensures.err in
+    passed_on c.from_residual.result c.in_err-type_nodes.field-0.0 _ c.from_residual.ensures.1 (root_refused (rule.settled c.args.rule.now r s) (rule.turns c.args.rule.now) r s c.args.arena.now roots c.in_err-type_nodes.field-0.0 c.requires.trees (refused.0, subst (λ nodes. Among (numbers nodes) refused.0) c.as_slice.ensures refused.1, refused.2))
 
-pub returns-in_err-visit-clause-like : goal.returns-in_err-visit-clause-like
-returns-in_err-visit-clause-like g c = λ typed.
+pub returns-in-None-clause-leaves : goal.returns-in-None-clause-leaves
+returns-in-None-clause-leaves g c =
+    let r = registry c.args.udfs.now in
+    let s = columns c.args.schema.now in
+    let rule = g.R.OptimizationRule in
+    let settled = rule.settled c.args.rule.now r s in
+    let measure = rule.measure c.args.rule.now r s in
+    let related = rule.related c.args.rule.now r s in
+    let turns = rule.turns c.args.rule.now in
+    let roots = numbers c.args.stack.now.items in
+    let inv = c.loop-turn.invariant in
+    turns_done settled related turns r s measure c.args.arena.now c.loop-turn.arena (reverse (numbers c.loop-turn.stack.items)) roots c.loop-turn.types c.args.steps.now c.loop-turn.steps inv.finite inv.longer inv.right inv.pending inv.many inv.standing inv.keeping inv.counted
+
+pub returns-in-None-clause-done : goal.returns-in-None-clause-done
+returns-in-None-clause-done g c =
+    let r = registry c.args.udfs.now in
+    let s = columns c.args.schema.now in
+    let rule = g.R.OptimizationRule in
+    let laws = g.met.R.OptimizationRule in
+    let settled = rule.settled c.args.rule.now r s in
+    let measure = rule.measure c.args.rule.now r s in
+    let related = rule.related c.args.rule.now r s in
+    let turns = rule.turns c.args.rule.now in
+    let roots = numbers c.args.stack.now.items in
+    let inv = c.loop-turn.invariant in
+    let empty = ap reverse (no_numbers c.loop-turn.stack.items c.in-None.ensures.variant.1) in
+    record {
+      roots_typed = subst (λ nodes. AllByRecursion (HasTyping r s c.args.arena.now) (numbers nodes)) c.as_slice.ensures c.in_ok-type_nodes.ensures.ok;
+      settled = settling_end settled r s c.loop-turn.arena roots (subst (λ l. Settling settled r s c.loop-turn.arena l roots) empty inv.settling);
+      alone = λ root number many t none is d h. alone_end settled measure related turns r s (laws.congruent c.args.rule.now r s) (laws.transitive c.args.rule.now r s) (laws.steady c.args.rule.now r s) none root number many t c.loop-turn.arena (subst (λ l. Alone settled related r s c.loop-turn.arena l root t) empty (inv.alone root number many t none is d h));
+      ends = λ n e none are. working_end settled measure related turns n e r s (laws.congruent c.args.rule.now r s) (laws.transitive c.args.rule.now r s) (laws.steady c.args.rule.now r s) none c.args.arena.now roots are c.loop-turn.arena (subst (λ l. Working settled related r s c.args.arena.now c.loop-turn.arena l roots) empty (inv.many n e none are));
+    }
+
+pub returns-in_err-visit-clause-leaves : goal.returns-in_err-visit-clause-leaves
+returns-in_err-visit-clause-leaves g c =
     let r = registry c.args.udfs.now in
     let s = columns c.args.schema.now in
     let rule = g.R.OptimizationRule in
@@ -128,70 +150,22 @@ returns-in_err-visit-clause-like g c = λ typed.
     let at = c.in-Some.node.0 in
     let popped = ap reverse (pushed_one c.pop.new.self.items c.loop-turn.stack.items c.in-Some.node c.in-Some.ensures.items) ∙ top_first rest at in
     let inv = c.loop-turn.invariant in
-    let now = subst (λ l. Pending settled related r s c.args.arena.now c.loop-turn.arena l roots) popped (inv.pending typed) in
-    pending_stops settled measure related turns r s (laws.congruent c.args.rule.now r s) (laws.transitive c.args.rule.now r s) (laws.steady c.args.rule.now r s) c.args.arena.now c.loop-turn.arena c.visit.new.arena at (reverse rest) roots now c.in_err-visit.ensures.stopped
-
-pub returns-in_err-visit-clause-finite : goal.returns-in_err-visit-clause-finite
-returns-in_err-visit-clause-finite g c = λ n t.
-    let rest = numbers c.pop.new.self.items in
-    let at = c.in-Some.node.0 in
-    let popped = ap reverse (pushed_one c.pop.new.self.items c.loop-turn.stack.items c.in-Some.node c.in-Some.ensures.items) ∙ top_first rest at in
-    let inv = c.loop-turn.invariant in
-    let here = (subst (AreTrees c.loop-turn.arena) popped inv.waiting).0 in
-    stopped_finite (g.R.OptimizationRule.settled c.args.rule.now (registry c.args.udfs.now) (columns c.args.schema.now)) (g.R.OptimizationRule.measure c.args.rule.now (registry c.args.udfs.now) (columns c.args.schema.now)) (g.R.OptimizationRule.related c.args.rule.now (registry c.args.udfs.now) (columns c.args.schema.now)) (g.R.OptimizationRule.turns c.args.rule.now) (registry c.args.udfs.now) (columns c.args.schema.now) c.loop-turn.arena c.visit.new.arena at here c.in_err-visit.ensures.stopped n (inv.finite n t)
-
-pub returns-in_err-visit-clause-longer : goal.returns-in_err-visit-clause-longer
-returns-in_err-visit-clause-longer g c =
-    omega (arith, c.loop-turn.invariant.longer, stopped_longer (g.R.OptimizationRule.settled c.args.rule.now (registry c.args.udfs.now) (columns c.args.schema.now)) (g.R.OptimizationRule.measure c.args.rule.now (registry c.args.udfs.now) (columns c.args.schema.now)) (g.R.OptimizationRule.related c.args.rule.now (registry c.args.udfs.now) (columns c.args.schema.now)) (g.R.OptimizationRule.turns c.args.rule.now) (registry c.args.udfs.now) (columns c.args.schema.now) c.loop-turn.arena c.visit.new.arena c.in-Some.node.0 c.in_err-visit.ensures.stopped)
-
-pub returns-in_err-visit-clause-elsewhere : goal.returns-in_err-visit-clause-elsewhere
-returns-in_err-visit-clause-elsewhere g c = λ n e.
-    let r = registry c.args.udfs.now in
-    let s = columns c.args.schema.now in
-    let rule = g.R.OptimizationRule in
-    let settled = rule.settled c.args.rule.now r s in
-    let measure = rule.measure c.args.rule.now r s in
-    let related = rule.related c.args.rule.now r s in
-    let turns = rule.turns c.args.rule.now in
-    let roots = numbers c.args.stack.now.items in
-    let rest = numbers c.pop.new.self.items in
-    let at = c.in-Some.node.0 in
-    let popped = ap reverse (pushed_one c.pop.new.self.items c.loop-turn.stack.items c.in-Some.node c.in-Some.ensures.items) ∙ top_first rest at in
-    let inv = c.loop-turn.invariant in
+    let stopped = c.in_err-visit.ensures.stopped in
+    let waiting = subst (AreTrees c.loop-turn.arena) popped inv.waiting in
     let rooted = all_weaker (DenotesTree (HoldsExpression c.args.arena.now)) (DenotesTree (HoldsExpression c.loop-turn.arena)) inv.finite roots c.requires.trees in
-    let trees = all_joined (DenotesTree (HoldsExpression c.loop-turn.arena)) roots (at ∷ reverse rest) rooted (subst (AreTrees c.loop-turn.arena) popped inv.waiting) in
-    stops_apart settled measure related turns n e r s c.args.arena.now c.loop-turn.arena c.visit.new.arena at (reverse rest) roots inv.longer trees (subst (Keeping c.args.arena.now roots c.loop-turn.arena) popped (inv.keeping n e)) c.in_err-visit.ensures.stopped
-
-pub returns-in_err-visit-clause-reaches : goal.returns-in_err-visit-clause-reaches
-returns-in_err-visit-clause-reaches g c = λ n e.
-    let r = registry c.args.udfs.now in
-    let s = columns c.args.schema.now in
-    let rule = g.R.OptimizationRule in
-    let settled = rule.settled c.args.rule.now r s in
-    let measure = rule.measure c.args.rule.now r s in
-    let related = rule.related c.args.rule.now r s in
-    let turns = rule.turns c.args.rule.now in
-    let roots = numbers c.args.stack.now.items in
-    let rest = numbers c.pop.new.self.items in
-    let at = c.in-Some.node.0 in
-    let popped = ap reverse (pushed_one c.pop.new.self.items c.loop-turn.stack.items c.in-Some.node c.in-Some.ensures.items) ∙ top_first rest at in
-    let inv = c.loop-turn.invariant in
-    let rooted = all_weaker (DenotesTree (HoldsExpression c.args.arena.now)) (DenotesTree (HoldsExpression c.loop-turn.arena)) inv.finite roots c.requires.trees in
-    let trees = all_joined (DenotesTree (HoldsExpression c.loop-turn.arena)) roots (at ∷ reverse rest) rooted (subst (AreTrees c.loop-turn.arena) popped inv.waiting) in
-    keeping_stops settled measure related turns n e r s c.args.arena.now c.loop-turn.arena c.visit.new.arena at (reverse rest) roots inv.longer trees (subst (Keeping c.args.arena.now roots c.loop-turn.arena) popped (inv.keeping n e)) c.in_err-visit.ensures.stopped
-
-pub returns-in_err-visit-clause-bounded : goal.returns-in_err-visit-clause-bounded
-returns-in_err-visit-clause-bounded g c = λ n e apart.
-    let r = registry c.args.udfs.now in
-    let s = columns c.args.schema.now in
-    let rule = g.R.OptimizationRule in
-    let measure = rule.measure c.args.rule.now r s in
-    let rest = numbers c.pop.new.self.items in
-    let at = c.in-Some.node.0 in
-    let popped = ap reverse (pushed_one c.pop.new.self.items c.loop-turn.stack.items c.in-Some.node c.in-Some.ensures.items) ∙ top_first rest at in
-    let inv = c.loop-turn.invariant in
-    let now = subst (λ l. Counted measure n (2 * n + 2) c.loop-turn.arena l c.args.steps.now c.loop-turn.steps) popped (inv.counted n e apart) in
-    counted_stops measure n (2 * n + 2) refl c.loop-turn.arena c.visit.new.arena at (reverse rest) c.args.steps.now c.loop-turn.steps c.visit.new.steps now (stopped_longer (g.R.OptimizationRule.settled c.args.rule.now (registry c.args.udfs.now) (columns c.args.schema.now)) (g.R.OptimizationRule.measure c.args.rule.now (registry c.args.udfs.now) (columns c.args.schema.now)) (g.R.OptimizationRule.related c.args.rule.now (registry c.args.udfs.now) (columns c.args.schema.now)) (g.R.OptimizationRule.turns c.args.rule.now) (registry c.args.udfs.now) (columns c.args.schema.now) c.loop-turn.arena c.visit.new.arena at c.in_err-visit.ensures.stopped) c.in_err-visit.ensures.steps
+    let trees = all_joined (DenotesTree (HoldsExpression c.loop-turn.arena)) roots (at ∷ reverse rest) rooted waiting in
+    let longer = stopped_longer settled measure related turns r s c.loop-turn.arena c.visit.new.arena at stopped in
+    record {
+      typed = stops_typed settled measure related turns r s (laws.congruent c.args.rule.now r s) (laws.transitive c.args.rule.now r s) c.args.arena.now roots c.loop-turn.arena c.visit.new.arena at (reverse rest) inv.finite inv.longer waiting (subst (λ l. Standing settled related turns r s c.args.arena.now c.loop-turn.arena l roots) popped inv.standing) stopped;
+      like = λ typed. pending_stops settled measure related turns r s (laws.congruent c.args.rule.now r s) (laws.transitive c.args.rule.now r s) (laws.steady c.args.rule.now r s) c.args.arena.now c.loop-turn.arena c.visit.new.arena at (reverse rest) roots (subst (λ l. Pending settled related r s c.args.arena.now c.loop-turn.arena l roots) popped (inv.pending typed)) stopped;
+      beside = λ n e none are. working_stops settled measure related turns n e r s (laws.congruent c.args.rule.now r s) (laws.transitive c.args.rule.now r s) (laws.steady c.args.rule.now r s) none c.args.arena.now roots are c.loop-turn.arena c.visit.new.arena at inv.finite inv.longer (λ m a. among_all (DenotesTree (HoldsExpression c.args.arena.now)) roots m c.requires.trees a) (reverse rest) stopped (subst (λ l. Working settled related r s c.args.arena.now c.loop-turn.arena l roots) popped (inv.many n e none are));
+      finite = λ n t. stopped_finite settled measure related turns r s c.loop-turn.arena c.visit.new.arena at waiting.0 stopped n (inv.finite n t);
+      elsewhere = λ n e. stops_apart settled measure related turns n e r s c.args.arena.now c.loop-turn.arena c.visit.new.arena at (reverse rest) roots inv.longer trees (subst (Keeping c.args.arena.now roots c.loop-turn.arena) popped (inv.keeping n e)) stopped;
+      reaches = λ n e. keeping_stops settled measure related turns n e r s c.args.arena.now c.loop-turn.arena c.visit.new.arena at (reverse rest) roots inv.longer trees (subst (Keeping c.args.arena.now roots c.loop-turn.arena) popped (inv.keeping n e)) stopped;
+      longer = omega (arith, inv.longer, longer);
+      right = c.in_err-visit.ensures.right;
+      bounded = λ n e apart. counted_stops measure n (2 * n + 2) refl c.loop-turn.arena c.visit.new.arena at (reverse rest) c.args.steps.now c.loop-turn.steps c.visit.new.steps (subst (λ l. Counted measure n (2 * n + 2) c.loop-turn.arena l c.args.steps.now c.loop-turn.steps) popped (inv.counted n e apart)) longer c.in_err-visit.ensures.steps;
+    }
 
 pub returns-in_err-visit-clause-err : goal.returns-in_err-visit-clause-err
 returns-in_err-visit-clause-err g c =
@@ -227,112 +201,23 @@ returns-in_err-visit-clause-err g c =
           memory_alone _ top.1 c.in_err-visit.field-0.0 top.3 (c.in_err-visit.ensures.err top.0 top.2);
     })
 
-pub returns-in-None-clause-alone : goal.returns-in-None-clause-alone
-returns-in-None-clause-alone g c = λ root number many t none is d h.
+pub returns-clause-leaves : goal.returns-clause-leaves
+returns-clause-leaves g c =
     let r = registry c.args.udfs.now in
     let s = columns c.args.schema.now in
     let rule = g.R.OptimizationRule in
-    let laws = g.met.R.OptimizationRule in
-    let settled = rule.settled c.args.rule.now r s in
-    let related = rule.related c.args.rule.now r s in
-    let empty = ap reverse (no_numbers c.loop-turn.stack.items c.in-None.ensures.variant.1) in
-    alone_end settled (rule.measure c.args.rule.now r s) related (rule.turns c.args.rule.now) r s (laws.congruent c.args.rule.now r s) (laws.transitive c.args.rule.now r s) (laws.steady c.args.rule.now r s) none root number many t c.loop-turn.arena (subst (λ l. Alone settled related r s c.loop-turn.arena l root t) empty (c.loop-turn.invariant.alone root number many t none is d h))
-
-pub returns-in-None-clause-beside : goal.returns-in-None-clause-beside
-returns-in-None-clause-beside g c = λ n e none are. (c.loop-turn.invariant.many n e none are).trees
-
-pub returns-in-None-clause-ends : goal.returns-in-None-clause-ends
-returns-in-None-clause-ends g c = λ n e none are.
-    let r = registry c.args.udfs.now in
-    let s = columns c.args.schema.now in
-    let rule = g.R.OptimizationRule in
-    let laws = g.met.R.OptimizationRule in
-    let settled = rule.settled c.args.rule.now r s in
-    let related = rule.related c.args.rule.now r s in
-    let roots = numbers c.args.stack.now.items in
-    let empty = ap reverse (no_numbers c.loop-turn.stack.items c.in-None.ensures.variant.1) in
-    working_end settled (rule.measure c.args.rule.now r s) related (rule.turns c.args.rule.now) n e r s (laws.congruent c.args.rule.now r s) (laws.transitive c.args.rule.now r s) (laws.steady c.args.rule.now r s) none c.args.arena.now roots are c.loop-turn.arena (subst (λ l. Working settled related r s c.args.arena.now c.loop-turn.arena l roots) empty (c.loop-turn.invariant.many n e none are))
-
-pub returns-clause-beside : goal.returns-clause-beside
-returns-clause-beside g c = λ n e none are. (c.loop-turn.invariant.many n e none are).trees
-
-pub returns-in_err-visit-clause-beside : goal.returns-in_err-visit-clause-beside
-returns-in_err-visit-clause-beside g c = λ n e none are.
-    let r = registry c.args.udfs.now in
-    let s = columns c.args.schema.now in
-    let rule = g.R.OptimizationRule in
-    let laws = g.met.R.OptimizationRule in
     let settled = rule.settled c.args.rule.now r s in
     let measure = rule.measure c.args.rule.now r s in
     let related = rule.related c.args.rule.now r s in
     let turns = rule.turns c.args.rule.now in
     let roots = numbers c.args.stack.now.items in
-    let rest = numbers c.pop.new.self.items in
-    let at = c.in-Some.node.0 in
-    let popped = ap reverse (pushed_one c.pop.new.self.items c.loop-turn.stack.items c.in-Some.node c.in-Some.ensures.items) ∙ top_first rest at in
     let inv = c.loop-turn.invariant in
-    working_stops settled measure related turns n e r s (laws.congruent c.args.rule.now r s) (laws.transitive c.args.rule.now r s) (laws.steady c.args.rule.now r s) none c.args.arena.now roots are c.loop-turn.arena c.visit.new.arena at inv.finite inv.longer (λ m a. among_all (DenotesTree (HoldsExpression c.args.arena.now)) roots m c.requires.trees a) (reverse rest) c.in_err-visit.ensures.stopped (subst (λ l. Working settled related r s c.args.arena.now c.loop-turn.arena l roots) popped (inv.many n e none are))
+    turns_done settled related turns r s measure c.args.arena.now c.loop-turn.arena (reverse (numbers c.loop-turn.stack.items)) roots c.loop-turn.types c.args.steps.now c.loop-turn.steps inv.finite inv.longer inv.right inv.pending inv.many inv.standing inv.keeping inv.counted
 
-pub returns-in_err-visit-clause-typed : goal.returns-in_err-visit-clause-typed
-returns-in_err-visit-clause-typed g c =
+pub returns-clause-err : goal.returns-clause-err
+returns-clause-err g c =
     let r = registry c.args.udfs.now in
     let s = columns c.args.schema.now in
-    let rule = g.R.OptimizationRule in
-    let laws = g.met.R.OptimizationRule in
-    let settled = rule.settled c.args.rule.now r s in
-    let related = rule.related c.args.rule.now r s in
-    let turns = rule.turns c.args.rule.now in
+    let settled = g.R.OptimizationRule.settled c.args.rule.now r s in
     let roots = numbers c.args.stack.now.items in
-    let rest = numbers c.pop.new.self.items in
-    let at = c.in-Some.node.0 in
-    let popped = ap reverse (pushed_one c.pop.new.self.items c.loop-turn.stack.items c.in-Some.node c.in-Some.ensures.items) ∙ top_first rest at in
-    let inv = c.loop-turn.invariant in
-    let trees = subst (AreTrees c.loop-turn.arena) popped inv.waiting in
-    let now = subst (λ l. Standing settled related turns r s c.args.arena.now c.loop-turn.arena l roots) popped inv.standing in
-    stops_typed settled (rule.measure c.args.rule.now r s) related turns r s (laws.congruent c.args.rule.now r s) (laws.transitive c.args.rule.now r s) c.args.arena.now roots c.loop-turn.arena c.visit.new.arena at (reverse rest) inv.finite inv.longer trees now c.in_err-visit.ensures.stopped
-
-pub returns-in_err-type_nodes-clause-typed : goal.returns-in_err-type_nodes-clause-typed
-returns-in_err-type_nodes-clause-typed g c =
-    let r = registry c.args.udfs.now in
-    let s = columns c.args.schema.now in
-    let rule = g.R.OptimizationRule in
-    let laws = g.met.R.OptimizationRule in
-    stays_typed (rule.settled c.args.rule.now r s) (rule.measure c.args.rule.now r s) (rule.related c.args.rule.now r s) (rule.turns c.args.rule.now) r s (laws.congruent c.args.rule.now r s) (laws.transitive c.args.rule.now r s) c.args.arena.now (numbers c.args.stack.now.items)
-
-pub returns-in_err-type_nodes-clause-like : goal.returns-in_err-type_nodes-clause-like
-returns-in_err-type_nodes-clause-like g c = λ typed n t d.
-    let r = registry c.args.udfs.now in
-    let s = columns c.args.schema.now in
-    record { tree = t; denotes = d; like = like_itself (g.R.OptimizationRule.related c.args.rule.now r s) r s (g.met.R.OptimizationRule.congruent c.args.rule.now r s) t }
-
-pub returns-in_err-type_nodes-clause-beside : goal.returns-in_err-type_nodes-clause-beside
-returns-in_err-type_nodes-clause-beside g c = λ limit is none are n t d away.
-    let r = registry c.args.udfs.now in
-    let s = columns c.args.schema.now in
-    record { tree = t; denotes = d; like = like_itself (g.R.OptimizationRule.related c.args.rule.now r s) r s (g.met.R.OptimizationRule.congruent c.args.rule.now r s) t }
-
-pub returns-in_err-type_nodes-clause-finite : goal.returns-in_err-type_nodes-clause-finite
-returns-in_err-type_nodes-clause-finite g c = λ n tree. tree
-
-pub returns-in_err-type_nodes-clause-elsewhere : goal.returns-in_err-type_nodes-clause-elsewhere
-returns-in_err-type_nodes-clause-elsewhere g c = λ limit is n op inputs apart held. held
-
-pub returns-in_err-type_nodes-clause-reaches : goal.returns-in_err-type_nodes-clause-reaches
-returns-in_err-type_nodes-clause-reaches g c = λ limit is n reached. inr reached
-
-pub returns-in_err-type_nodes-clause-bounded : goal.returns-in_err-type_nodes-clause-bounded
-returns-in_err-type_nodes-clause-bounded g c = λ n e apart.
-    let r = registry c.args.udfs.now in
-    let s = columns c.args.schema.now in
-    let measure = g.R.OptimizationRule.measure c.args.rule.now r s in
-    let roots = numbers c.args.stack.now.items in
-    counted_end measure n (2 * n + 2) refl c.args.arena.now (reverse roots) c.args.steps.now c.args.steps.now (counted_start measure n (2 * n + 2) refl (λ t. g.met.R.OptimizationRule.bounded c.args.rule.now r s t n e) c.args.arena.now roots c.args.steps.now apart)
-
-pub returns-in_err-type_nodes-clause-err : goal.returns-in_err-type_nodes-clause-err
-returns-in_err-type_nodes-clause-err g c =
-    let r = registry c.args.udfs.now in
-    let s = columns c.args.schema.now in
-    let rule = g.R.OptimizationRule in
-    let roots = numbers c.args.stack.now.items in
-    let refused = c.in_err-type_nodes.ensures.err in
-    passed_on c.from_residual.result c.in_err-type_nodes.field-0.0 _ c.from_residual.ensures.1 (root_refused (rule.settled c.args.rule.now r s) (rule.turns c.args.rule.now) r s c.args.arena.now roots c.in_err-type_nodes.field-0.0 c.requires.trees (refused.0, subst (λ nodes. Among (numbers nodes) refused.0) c.as_slice.ensures refused.1, refused.2))
+    subst (IsCoercionRefusal settled (g.R.OptimizationRule.turns c.args.rule.now) r s c.args.arena.now c.loop-turn.arena roots) (sym c.at_top.ensures) (no_memory_left settled (g.R.OptimizationRule.turns c.args.rule.now) r s c.args.arena.now c.loop-turn.arena roots)
