@@ -1,6 +1,7 @@
 -- Filters that are put over an accepted plan.
-use Rattle.std.proofs.Common.{◌≡◌, ℕ, List, [], ◌∷◌, ◌++◌, length, map, Some, slice_get, refl, sym, ap, ◌∙◌}
+use Rattle.std.proofs.Common.{◌≡◌, ℕ, List, [], ◌∷◌, ◌++◌, length, map, Some, slice_get, refl}
 use Rattle.plan_types.specs.Schemas.{Columns}
+use Rattle.plan_types.proofs.ListLemmas.{slice_get-seam}
 use Rattle.plan_dsl.specs.Ops.{Expression}
 use Rattle.plan_dsl.specs.Plans.{FilterKind, Named, Plan, filter_op}
 use Rattle.plan_dsl.specs.PlanRules.{schema_of}
@@ -13,16 +14,12 @@ use Rattle.plan_arena.specs.declared.ir.IR.{IR}
 use Rattle.plan_arena.specs.declared.ir.IR.TheVariants.{Filter}
 use Rattle.plan_arena.specs.Denotation.{Denotes}
 use Rattle.plan_arena.specs.Items.{Grows, HoldsExpression, HoldsPlan, named_node, plan_layer}
-use Rattle.plan_arena.specs.Layers.{shape_of}
-use Rattle.plan_arena.specs.PlanSchemas.{schema_into}
 use Rattle.plan_arena.specs.Runs.{IsAccepted}
-use Rattle.plan_arena.proofs.DenotationLemmas.{denotes_one}
-use Rattle.plan_arena.proofs.ItemLemmas.{grown_held, plan_added, plan_laws, plan_tree_kept}
+use Rattle.plan_arena.proofs.ItemLemmas.{grown_held, plan_added, plan_tree_kept}
 use Rattle.plan_coerce.specs.Optimizer.{StaysOver}
-use Rattle.plan_coerce.specs.Rules.{HasAcceptedInputs}
-
-some_one : (a b : Columns) → Some a ≡ Some b → a ≡ b
-some_one a b e = cc
+use Rattle.plan_coerce.specs.Rules.{HasUncheckedInputs}
+use Rattle.plan_coerce.proofs.PlanNodeLemmas.{filter_node, over_accepted}
+use Rattle.plan_coerce.proofs.UncheckedLemmas.{accepted_schema, one_schema}
 
 module _ (registry : Registry) (old items : List AExpr) (plans filtered : List IR) (input : Node) (n : ℕ) (predicate : ExprIR) (t : Plan) (e : Expression) (grows : Grows old items) (longer : filtered ≡ plans ++ Filter input predicate ∷ []) (at : n ≡ length plans) (denotes : Denotes (HoldsPlan old plans) input.0 t) (accepted : IsAccepted registry t) (tree : Denotes (HoldsExpression items) (named_node predicate).expression e) where
   abbrev output : Named Expression
@@ -41,13 +38,15 @@ module _ (registry : Registry) (old items : List AExpr) (plans filtered : List I
     (below, tt),
   )
 
-  -- it stands over accepted inputs
-  pub over_accepted : HasAcceptedInputs registry items filtered n
-  over_accepted = record { op = filter_op output; inputs = more t no_more; is = record { denotes = filter; accepted = (accepted, tt) } }
+  -- it stands over an input that keeps the rules
+  pub over_input : HasUncheckedInputs registry items filtered n
+  over_input = over_accepted registry items filtered n (record { op = filter_op output; inputs = more t no_more; denotes = filter; accepted = (accepted, tt) })
+
+  got : slice_get filtered n ≡ Some (Filter input predicate)
+  got = rw (longer, at) (slice_get-seam plans (Filter input predicate) [])
 
   -- the schema that goes into it is that of the plan
   pub over_schema : (schema : Columns) → schema_of registry t ≡ Some schema → StaysOver registry items filtered n schema
   over_schema schema is other into s =
-      let same = denotes_one (shape_of (map plan_layer filtered)) (HoldsPlan items filtered) (plan_laws items filtered) n (node s.op s.inputs) (node (filter_op output) (more t no_more)) s.is.denotes filter in
-      let inputs : s.inputs ≡ more t no_more = cc in
-      some_one into schema (sym s.into ∙ ap (schema_into registry (FilterKind other)) inputs ∙ is)
+      let only = (filter_node registry items filtered n input predicate got over_input).only (FilterKind other) into s in
+      one_schema registry filtered input.0 into schema only.3 (accepted_schema registry items filtered input.0 t schema below accepted is)

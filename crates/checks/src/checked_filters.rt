@@ -6,7 +6,7 @@ ghost use Rattle.plan_arena.specs.Denotation.{DenotesTree};
 ghost use Rattle.plan_arena.specs.Items.{HoldsExpression};
 ghost use Rattle.plan_infer.specs.KeptTypes.{IsRight};
 ghost use Rattle.plan_coerce.specs.Optimizer.{AreTrees, StaysOver, roots_of};
-ghost use Rattle.plan_coerce.specs.Rules.{HasAcceptedInputs};
+ghost use Rattle.plan_coerce.specs.Rules.{HasUncheckedInputs};
 ghost use Rattle.checks.specs.Filters.{HasAcceptedTop};
 
 use crate::coercions::{no_types, push};
@@ -46,7 +46,7 @@ struct Filtered {
 // A filter by the column of that name over the plan.
 fn filter_over(rt: &impl Abort, alloc: Global, plan: IRPlan, name: &str, udfs: &Udfs) -> Filtered
     requires { HasAcceptedTop (registry udfs.now) plan }
-    ensures inputs { HasAcceptedInputs (registry udfs.now) result.arena result.plans result.node.0 }
+    ensures inputs { HasUncheckedInputs (registry udfs.now) result.arena result.plans result.node.0 }
     ensures over { StaysOver (registry udfs.now) result.arena result.plans result.node.0 (columns result.schema) }
     ensures tree { DenotesTree (HoldsExpression result.arena) result.predicate.0 }
 {
@@ -83,7 +83,7 @@ fn filter_of_scan(
     dtype: &DataType,
     udfs: &Udfs,
 ) -> Filtered
-    ensures inputs { HasAcceptedInputs (registry udfs.now) result.arena result.plans result.node.0 }
+    ensures inputs { HasUncheckedInputs (registry udfs.now) result.arena result.plans result.node.0 }
     ensures over { StaysOver (registry udfs.now) result.arena result.plans result.node.0 (columns result.schema) }
     ensures tree { DenotesTree (HoldsExpression result.arena) result.predicate.0 }
 {
@@ -110,7 +110,7 @@ fn answer_by<R: OptimizationRule, M: Ledger, L: Ledger>(
     requires some_steps { 0 < steps.parts }
     requires trees { AreTrees filter.old.arena (roots_of optimizer.old) }
     requires right { IsRight (registry udfs.now) (columns filter.old.schema) filter.old.arena types.old }
-    requires inputs { HasAcceptedInputs (registry udfs.now) filter.old.arena filter.old.plans filter.old.node.0 }
+    requires inputs { HasUncheckedInputs (registry udfs.now) filter.old.arena filter.old.plans filter.old.node.0 }
     requires over { StaysOver (registry udfs.now) filter.old.arena filter.old.plans filter.old.node.0 (columns filter.old.schema) }
 {
     let mut typings = Steps::<M>::new(typings);

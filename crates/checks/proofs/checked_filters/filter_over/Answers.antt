@@ -13,7 +13,7 @@ use Rattle.plan_arena.specs.Denotation.{Denotes, DenotesTree}
 use Rattle.plan_arena.specs.Items.{DenotesItem, HoldsExpression, HoldsFrom, named_node}
 use Rattle.plan_arena.specs.Runs.{IsAccepted}
 use Rattle.plan_arena.proofs.ItemLemmas.{any_node, item_denotes, item_inputs, plan_within}
-use Rattle.checks.proofs.FilterLemmas.{over_accepted, over_schema}
+use Rattle.checks.proofs.FilterLemmas.{over_input, over_schema}
 use Rattle.checks.proofs.RootLemmas.{of_ok, on_ok, tree_added}
 use Rattle.checks.proofs.checked_filters.filter_over.Goals as goal
 
@@ -36,7 +36,7 @@ returns-clause-inputs g c =
     let tree = of_ok (λ (p : ExprIR). Denotes (HoldsFrom (length plan.expr_arena) items) (named_node p).expression e) c.to_expr_ir.result predicate c.expect-predicate.ensures c.to_expr_ir.ensures.denotes in
     let longer = on_ok c.add.result c.expect-node.result c.expect-node.ensures c.add.ensures.ok in
     let at = of_ok (λ (n : Node). n.0 ≡ length plan.lp_arena) c.add.result c.expect-node.result c.expect-node.ensures c.add.ensures.node in
-    over_accepted (registry c.args.udfs.now) plan.expr_arena items plan.lp_arena c.add.new.self plan.lp_top c.expect-node.result.0 predicate c.requires.tree e c.to_expr_ir.ensures.grows longer at c.requires.denotes c.requires.accepted (any_node (length plan.expr_arena) items (named_node predicate).expression e tree)
+    over_input (registry c.args.udfs.now) plan.expr_arena items plan.lp_arena c.add.new.self plan.lp_top c.expect-node.result.0 predicate c.requires.tree e c.to_expr_ir.ensures.grows longer at c.requires.denotes c.requires.accepted (any_node (length plan.expr_arena) items (named_node predicate).expression e tree)
 
 pub returns-clause-over : goal.returns-clause-over
 returns-clause-over g c =
