@@ -24,16 +24,16 @@ inline_by-requires g c =
     let s = columns c.args.schema.now in
     let roots = roots_of c.args.optimizer in
     let mid = c.coerce_expressions.new.expr_arena in
-    let like = c.in_ok-coerce_expressions.ensures.like (known_roots r s c.args.start c.args.arena.now roots c.requires.known) in
+    let like = c.in_ok-coerce_expressions.ensures.leaves.like (known_roots r s c.args.start c.args.arena.now roots c.requires.known) in
     record {
       trees = subst (AreTrees mid) (sym c.requires.both) (coerced_trees r s c.args.start c.args.arena.now mid mid roots c.requires.known like);
-      right = c.in_ok-coerce_expressions.ensures.right;
-      from = subst (λ l. (n : ℕ) → IsReached mid l n → c.args.start ≤ n) (sym c.requires.both) (near_from r s c.args.start c.args.arena.now mid roots c.requires.within c.requires.known (c.in_ok-coerce_expressions.ensures.reaches 8 refl));
+      right = c.in_ok-coerce_expressions.ensures.leaves.right;
+      from = subst (λ l. (n : ℕ) → IsReached mid l n → c.args.start ≤ n) (sym c.requires.both) (near_from r s c.args.start c.args.arena.now mid roots c.requires.within c.requires.known (c.in_ok-coerce_expressions.ensures.leaves.reaches 8 refl));
       typed = subst (AreTypedRoots stays r s mid) (sym c.requires.both) (coerced_known r s c.args.start c.args.arena.now mid mid roots c.requires.known like);
     }
 
 pub returns-in_err-coerce_expressions-clause-below : goal.returns-in_err-coerce_expressions-clause-below
-returns-in_err-coerce_expressions-clause-below g c = λ first known. known_below (registry c.args.udfs.now) (columns c.args.schema.now) first c.args.arena.now c.coerce_expressions.new.expr_arena (roots_of c.args.optimizer) known (c.coerce_expressions.ensures.elsewhere 8 refl)
+returns-in_err-coerce_expressions-clause-below g c = λ first known. known_below (registry c.args.udfs.now) (columns c.args.schema.now) first c.args.arena.now c.coerce_expressions.new.expr_arena (roots_of c.args.optimizer) known (c.coerce_expressions.ensures.leaves.elsewhere 8 refl)
 
 pub returns-in_err-coerce_expressions-clause-err : goal.returns-in_err-coerce_expressions-clause-err
 returns-in_err-coerce_expressions-clause-err g c =
@@ -49,11 +49,11 @@ returns-clause-ok g c =
     let new = c.inline_by.new.arena in
     let roots = roots_of c.args.optimizer in
     let typed = known_roots r s c.args.start old roots c.requires.known in
-    let done = c.in_ok-coerce_expressions.ensures in
+    let left = c.in_ok-coerce_expressions.ensures.leaves in
     on_ok c.inline_by.result c.inline_by.ensures.settled (λ ended first known.
-    let coerced = coerced_roots r s first old mid roots known (done.like typed) done.settled (done.elsewhere 8 refl) in
+    let coerced = coerced_roots r s first old mid roots known (left.like typed) c.in_ok-coerce_expressions.ensures.done.settled (left.elsewhere 8 refl) in
     let last = subst (AllByRecursion (DenotesSettled stays new)) c.requires.both ended in
-    written_roots r s first old mid new roots known coerced (done.reaches 8 refl) c.inline_by.ensures.like last (subst (StaysApart mid new) c.requires.both c.inline_by.ensures.apart))
+    written_roots r s first old mid new roots known coerced (left.reaches 8 refl) c.inline_by.ensures.like last (subst (StaysApart mid new) c.requires.both c.inline_by.ensures.apart))
 
 pub returns-clause-below : goal.returns-clause-below
 returns-clause-below g c = λ first known.
@@ -63,5 +63,5 @@ returns-clause-below g c = λ first known.
     let mid = c.coerce_expressions.new.expr_arena in
     let new = c.inline_by.new.arena in
     let roots = roots_of c.args.optimizer in
-    let done = c.in_ok-coerce_expressions.ensures in
-    written_below r s first old mid new roots known (known_below r s first old mid roots known (done.elsewhere 8 refl)) (done.reaches 8 refl) (subst (StaysApart mid new) c.requires.both c.inline_by.ensures.apart)
+    let left = c.in_ok-coerce_expressions.ensures.leaves in
+    written_below r s first old mid new roots known (known_below r s first old mid roots known (left.elsewhere 8 refl)) (left.reaches 8 refl) (subst (StaysApart mid new) c.requires.both c.inline_by.ensures.apart)
