@@ -101,7 +101,8 @@ impl OptimizationRule for TypeCoercionRule {
 
 // Whether it is kept of a node that it has a type of columns and takes its operands as they are.
 fn is_settled(node: Node, types: &TypeTable) -> bool
-    ensures { result ≡ true → (own : Inferred) × KeepsEntry types.now node.0 own × (own.operands ≡ []) × ((number : ℤ) → ty own.dtype ≢ Untyped number) }
+    ensures kept { result ≡ true → (own : Inferred) × KeepsEntry types.now node.0 own × (own.operands ≡ []) × ((number : ℤ) → ty own.dtype ≢ Untyped number) }
+    ensures unless { (own : Inferred) → KeepsEntry types.now node.0 own → own.operands ≡ [] → ((number : ℤ) → ty own.dtype ≢ Untyped number) → result ≡ true }
 {
     match types.kept(node) {
         None => false,
@@ -121,6 +122,7 @@ pub(crate) fn infer_once<M: Ledger>(
     requires tree { DenotesTree (HoldsExpression arena.now) node.0 }
     requires right { IsRight (registry udfs.now) (columns schema.now) arena.now types.old }
     ensures kept { OnOk result (IsKept types.new node.0) }
+    ensures extends { Extends types.old types.new }
     ensures right { IsRight (registry udfs.now) (columns schema.now) arena.now types.new }
     ensures err { IfErr result (λ error. (t : Expression) → Denotes (HoldsExpression arena.now) node.0 t →
         IsRefusal (typing (registry udfs.now) (columns schema.now) t) error) }
@@ -151,6 +153,7 @@ fn item_for(
     ensures right { OnOk result ((registry : Registry) (schema : Columns) → IsRight registry schema arena.old types.old → IsRight registry schema arena.new types.new) }
     ensures grows { Grows arena.old arena.new }
     ensures same { IfOk result (λ answer. answer ≡ None → arena.new ≡ arena.old) }
+    ensures table { IfOk result (λ answer. answer ≡ None → types.new ≡ types.old) }
     ensures err { IfErr result (λ error. error ≡ no_memory) }
 {
     let own = types.get(node);
@@ -189,6 +192,7 @@ fn item_over(
     ensures right { OnOk result ((registry : Registry) (schema : Columns) → IsRight registry schema arena.old types.old → IsRight registry schema arena.new types.new) }
     ensures grows { Grows arena.old arena.new }
     ensures same { IfOk result (λ answer. answer ≡ None → arena.new ≡ arena.old) }
+    ensures table { IfOk result (λ answer. answer ≡ None → types.new ≡ types.old) }
     ensures err { IfErr result (λ error. error ≡ no_memory) }
 {
     if let AExpr::BinaryExpr { left, op, right } = arena.get(node) {
@@ -227,6 +231,7 @@ fn change_operands(
     ensures stays { IfOk result (λ changed. changed ≡ false → (registry : Registry) (schema : Columns) (t : Expression) → IsRight registry schema arena.old types.old →
         Denotes (HoldsExpression arena.old) node.0 t → said (is_strict_node registry schema) registry schema t ≡ true) }
     ensures same { IfOk result (λ changed. changed ≡ false → arena.new ≡ arena.old) }
+    ensures table { IfOk result (λ changed. changed ≡ false → types.new ≡ types.old) }
     ensures over { IfOk result (λ changed. changed ≡ true → (item : AExpr) → IsOver arena.old node.0 item (numbers operands.new) → CanReplace arena.old arena.new types.old types.new node.0 item) }
     ensures count { OnOk result (length operands.new ≡ length operands.old) }
     ensures right { OnOk result ((registry : Registry) (schema : Columns) → IsRight registry schema arena.old types.old → IsRight registry schema arena.new types.new) }

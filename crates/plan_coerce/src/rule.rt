@@ -9,7 +9,7 @@ ghost use Rattle.plan_dsl.specs.Registry.{Registry, registry};
 ghost use Rattle.plan_dsl.specs.Typing.{Typed, typing};
 ghost use Rattle.plan_arena.specs.Denotation.{Denotes, DenotesTree};
 ghost use Rattle.plan_arena.specs.Items.{Grows, HoldsExpression};
-ghost use Rattle.plan_infer.specs.KeptTypes.{IsRight};
+ghost use Rattle.plan_infer.specs.KeptTypes.{Extends, IsRight};
 ghost use Rattle.plan_coerce.specs.Reaching.{IsClosed, StaysOnce};
 ghost use Rattle.plan_coerce.specs.Rules.{HasUncheckedInputs, IsCongruent, IsPlanReplacement, IsReplacement, IsSettledPlan, IsSteady, IsTransitive, KeepsNumber, RefusesPredicate, SettlesNoNumber, StandsOver};
 
@@ -68,6 +68,7 @@ pub trait OptimizationRule {
         ensures right { (schema : Columns) → IsRight (registry udfs.now) schema expr_arena.now types.old →
             ((predicate : Named Expression) (into : Columns) → StandsOver (registry udfs.now) expr_arena.now lp_arena.now node.0 (FilterKind predicate) into → into ≡ schema) →
             IsRight (registry udfs.now) schema expr_arena.now types.new }
+        ensures kept { IfOk result (λ answer. answer ≡ None → Extends types.old types.new) }
         ensures untouched { ((predicate : Named Expression) (schema : Columns) → ¬ (StandsOver (registry udfs.now) expr_arena.now lp_arena.now node.0 (FilterKind predicate) schema)) →
             types.new ≡ types.old }
         ensures err { IfErr result (λ error. (kind : PlanKind (Named Expression)) (schema : Columns) → StandsOver (registry udfs.now) expr_arena.now lp_arena.now node.0 kind schema →
@@ -97,6 +98,7 @@ pub trait OptimizationRule {
             StaysOnce expr_arena.old (set expr_arena.new node.0 item) node.0)) }
         ensures grows { Grows expr_arena.old expr_arena.new }
         ensures same { IfOk result (λ answer. answer ≡ None → expr_arena.new ≡ expr_arena.old) }
+        ensures kept { IfOk result (λ answer. answer ≡ None → Extends types.old types.new) }
         ensures right { IsRight (registry udfs.now) (columns schema.now) expr_arena.new types.new }
         ensures placed { IfOk result (λ answer. MatchOption answer Unit (λ item. ¬ (KeepsNumber types.new node.0) →
             IsRight (registry udfs.now) (columns schema.now) (set expr_arena.new node.0 item) types.new)) }

@@ -387,6 +387,7 @@ fn push_below(item: &AExpr, stack: &mut Nodes) -> bool
 fn put_in_place(node: Node, item: AExpr, arena: &mut Arena<AExpr>, types: &mut TypeTable)
     requires there { node.0 < length arena.old }
     ensures item { arena.new ≡ set arena.old node.0 item }
+    ensures kept { ¬ (KeepsNumber types.old node.0) → types.new ≡ types.old }
     ensures right { (registry : Registry) (schema : Columns) → (¬ (KeepsNumber types.old node.0) → IsRight registry schema (set arena.old node.0 item) types.old) →
         IsRight registry schema arena.new types.new }
 {

@@ -9,7 +9,7 @@ ghost use Rattle.plan_dsl.specs.Registry.{registry};
 ghost use Rattle.plan_dsl.specs.Typing.{typing};
 ghost use Rattle.plan_arena.specs.Denotation.{Denotes, DenotesTree};
 ghost use Rattle.plan_arena.specs.Items.{HoldsExpression};
-ghost use Rattle.plan_infer.specs.KeptTypes.{IsRight};
+ghost use Rattle.plan_infer.specs.KeptTypes.{Extends, IsRight};
 ghost use Rattle.plan_coerce.specs.Rules.{has_truth, is_ok_typed, truth_of};
 
 use crate::rule::OptimizationRule;
@@ -94,6 +94,7 @@ fn check_predicate<M: Ledger>(
     ensures ok { OnOk result ((t : Expression) → Denotes (HoldsExpression arena.now) node.0 t →
         is_ok_typed (truth_of (typing (registry udfs.now) (columns schema.now) t)) ≡ true) }
     ensures right { IsRight (registry udfs.now) (columns schema.now) arena.now types.new }
+    ensures kept { Extends types.old types.new }
     ensures err { IfErr result (λ error. (t : Expression) → Denotes (HoldsExpression arena.now) node.0 t →
         IsRefusal (truth_of (typing (registry udfs.now) (columns schema.now) t)) error) }
 {

@@ -76,5 +76,6 @@ returns c =
       right = changed.right;
       grows = changed.grows;
       same = λ e. cc;
+      table = λ e. cc;
       err = tt;
     }

@@ -13,3 +13,9 @@ returns-clause-right c = λ registry schema right.
       | then-keeps_number w ↦ subst (IsRight registry schema c.replace.new.self) (sym w.types-is) (right_start registry schema c.replace.new.self w.clear.new.self w.clear.ensures)
       | else-keeps_number w ↦ subst (IsRight registry schema c.replace.new.self) (sym w.types-is) (now (λ k. false≢true (sym w.if-keeps_number.false ∙ c.keeps_number.ensures.1 k)))
     ]
+
+pub returns-clause-kept : goal.returns-clause-kept
+returns-clause-kept c = λ none. elim c.if-keeps_number.branch [
+  | then-keeps_number w ↦ absurd (none (c.keeps_number.ensures.0 w.if-keeps_number.true))
+  | else-keeps_number w ↦ w.types-is
+]
