@@ -1,18 +1,19 @@
 //! The name and type of the column of an item that is handed over by itself.
-ghost use Rattle.std.specs.Prelude.{◌≡◌, ◌≢◌, IfOk, IfErr, OnOk, OnErr};
+ghost use Rattle.std.specs.Prelude.{◌≡◌, ◌≢◌, ◌<◌, IfOk, IfErr, OnOk, OnErr};
 ghost use Rattle.std.specs.List.{AllByRecursion};
-ghost use Rattle.plan_types.specs.Errors.{no_memory};
+ghost use Rattle.plan_types.specs.Errors.{IsRefusal, no_memory};
 ghost use Rattle.plan_types.specs.Schemas.{columns};
 ghost use Rattle.plan_dsl.specs.Names.{label_of};
 ghost use Rattle.plan_dsl.specs.Ops.{Expression, Op};
 ghost use Rattle.plan_dsl.specs.Registry.{registry};
-ghost use Rattle.plan_dsl.specs.Typing.{typing};
-ghost use Rattle.plan_arena.specs.Layers.{Layer, inputs_of};
-ghost use Rattle.plan_arena.specs.Items.{expression_layer, output_label};
+ghost use Rattle.plan_dsl.specs.Typing.{typing, typing_rule};
+ghost use Rattle.plan_arena.specs.Layers.{Layer, inputs_of, op_of};
+ghost use Rattle.plan_arena.specs.Items.{expression_layer, numbers, output_label};
 ghost use Rattle.plan_infer.specs.ItemTrees.{HasOperands, IsItemField, IsItemRefusal, IsItemType, LayerDenotes, StaysWhereMany};
-ghost use Rattle.plan_infer.specs.KeptTypes.{HasRightTypes, IsKept, IsRight, typed_of};
+ghost use Rattle.plan_infer.specs.KeptTypes.{HasRightTypes, IsKept, IsRight, IsRuled, typed_of, typings_at};
 
 use crate::field::{Context, dtype_in};
+use crate::steps::Steps;
 use crate::type_table::{Inferred, TypeTable};
 use crate::typing::own_typing;
 use plan_arena::aexpr::AExpr;
@@ -25,6 +26,8 @@ use plan_types::field::Field;
 use plan_types::schema::Schema;
 use plan_types::text::PlSmallStr;
 use std::alloc::Global;
+use std::marker::Brand;
+use std::sync::ledger::{Blank, Ledger};
 
 /// Over which frames an item is asked for its field, in which context, and what it names.
 #[derive(Clone, Copy)]
@@ -210,8 +213,32 @@ fn type_item(
         types.infer(inputs[index], schema, arena, udfs)?;
     }
     // The item has no number, and its name is asked for apart.
-    let own = own_typing(Node(0), item, inputs, types, schema, udfs, alloc)?;
+    let blank = Blank::new(1);
+    let own = own_alone::<Brand>(item, inputs, types, schema, udfs, alloc, blank)?;
     Ok(own)
+}
+
+// What the rule of an item says, whose inputs are typed, with a ledger of its own.
+fn own_alone<M: Ledger>(
+    item: &AExpr,
+    inputs: &[Node],
+    types: &TypeTable,
+    schema: &Schema,
+    udfs: &Udfs,
+    alloc: Global,
+    blank: Blank,
+) -> Result<Inferred, PlanError>
+    requires name { blank.name ≡ M.name }
+    requires parts { blank.parts ≡ M.parts }
+    requires some { 0 < blank.parts }
+    requires listed { numbers inputs.now ≡ inputs_of (expression_layer item.now) }
+    requires inputs { AllByRecursion (IsKept types.now) (numbers inputs.now) }
+    ensures ok { IfOk result (IsRuled (registry udfs.now) (columns schema.now) (op_of (expression_layer item.now)) (typings_at types.now (numbers inputs.now))) }
+    ensures err { IfErr result (IsRefusal (typing_rule (registry udfs.now) (columns schema.now) (op_of (expression_layer item.now)) (typings_at types.now (numbers inputs.now)))) }
+{
+    let mut typings = Steps::<M>::new(blank);
+    let step = typings.step();
+    own_typing(Node(0), item, inputs, types, schema, udfs, alloc, step)
 }
 
 // The name of an item whose inputs are typed.

@@ -15,6 +15,7 @@ ghost use Rattle.plan_infer.specs.Operands.{is_finer};
 
 use crate::operator_types::OperandTypes;
 use crate::signed::{signed_typing, type_alone};
+use crate::steps::Step;
 use crate::taken::taken_typing;
 use crate::taken_types::TakenTypes;
 use crate::type_table::{Inferred, TypeTable};
@@ -37,6 +38,7 @@ pub(crate) fn function_typing(
     inputs: &[Node],
     types: &TypeTable,
     alloc: Global,
+    step: Step,
 ) -> Result<Inferred, PlanError>
     requires found { found ≡ function_signature function.now (length inputs.now) }
     requires inputs { AllByRecursion (IsKept types.now) (numbers inputs.now) }
@@ -48,7 +50,7 @@ pub(crate) fn function_typing(
         FunctionExpr::IsIn => is_in_typing(node, inputs, types, alloc),
         FunctionExpr::FieldByName(name) => field_typing(node, name, inputs, types, alloc),
         _ => {
-            let own = signed_typing(node, found, inputs, types, alloc)?;
+            let own = signed_typing(node, found, inputs, types, alloc, step)?;
             Ok(Inferred {
                 name: node,
                 dtype: own.dtype,

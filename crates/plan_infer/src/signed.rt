@@ -14,6 +14,7 @@ ghost use Rattle.plan_arena.specs.Items.{expression_layer, numbers, numbers_name
 ghost use Rattle.plan_infer.specs.KeptTypes.{AreOperands, IsKept, Says, name_at, typed_of, typings_at};
 ghost use Rattle.plan_infer.specs.Operands.{common_with};
 
+use crate::steps::Step;
 use crate::taken_types::TakenTypes;
 use crate::type_table::{Inferred, TypeTable};
 use plan_arena::aexpr::AExpr;
@@ -220,6 +221,7 @@ pub(crate) fn signed_typing(
     inputs: &[Node],
     types: &TypeTable,
     alloc: Global,
+    _step: Step,
 ) -> Result<Inferred, PlanError>
     requires inputs { AllByRecursion (IsKept types.now) (numbers inputs.now) }
     ensures ok { IfOk result (λ own. let typed = typings_at types.now (numbers inputs.now) in Says (signed found typed) typed own) }

@@ -4,12 +4,16 @@ ghost use Rattle.std.specs.Prelude.{◌≡◌, ◌+◌, ◌<◌};
 use std::marker::Model;
 use std::sync::ledger::{Blank, Book, Ledger, Share};
 
-/// How many steps were taken. It takes no bytes, and only `tick` changes it.
+/// How many steps were taken. It takes no bytes, and only `tick` and `step` change it.
 #[derive(Drop)]
 pub struct Steps<M: Ledger> {
     book: Book<M>,
     share: Share<M>,
 }
+
+/// A step that was taken. What is counted takes one, so that none counts for two.
+#[derive(Drop)]
+pub(crate) struct Step(());
 
 impl<M: Ledger> Model for Steps<M> {
     ghost use Rattle.std.specs.Prelude.{ℕ, ◌<◌};
@@ -38,5 +42,13 @@ impl<M: Ledger> Steps<M> {
         ensures { self.new ≡ self.old + 1 }
     {
         self.book.add(&mut self.share, 1);
+    }
+
+    /// Takes a step, and hands it out.
+    pub(crate) fn step(&mut self) -> Step
+        ensures { self.new ≡ self.old + 1 }
+    {
+        self.book.add(&mut self.share, 1);
+        Step(())
     }
 }

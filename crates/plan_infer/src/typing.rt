@@ -17,7 +17,7 @@ ghost use Rattle.plan_infer.specs.KeptTypes.{Extends, IsKept, IsNamedBy, IsRight
 use crate::function_types::function_typing;
 use crate::operator_types::{common_integer, operand_types};
 use crate::signed::{signature, signed_typing, type_alone, unless_own};
-use crate::steps::Steps;
+use crate::steps::{Step, Steps};
 use crate::taken::{taken_typing, widened};
 use crate::taken_types::TakenTypes;
 use crate::type_table::{Inferred, TypeTable};
@@ -97,8 +97,7 @@ fn type_column<M: Ledger>(
     ensures err { IfErr result (λ error. (registry : Registry) → IsRight registry (columns schema.now) arena.now types.old → (t : Expression) →
         Denotes (HoldsExpression arena.now) node.0 t → IsRefusal (typing registry (columns schema.now) t) error) }
 {
-    typings.tick();
-    let found = match column_dtype(name, schema) {
+    let found = match column_dtype(name, schema, typings.step()) {
         Ok(found) => found,
         Err(kind) => return Err(PlanError::at_top(kind)),
     };
@@ -135,8 +134,7 @@ fn type_literal<M: Ledger>(
     ensures err { IfErr result (λ error. (registry : Registry) (schema : Columns) → IsRight registry schema arena.now types.old → (t : Expression) →
         Denotes (HoldsExpression arena.now) node.0 t → IsRefusal (typing registry schema t) error) }
 {
-    typings.tick();
-    let dtype = literal_dtype(value)?;
+    let dtype = literal_dtype(value, typings.step())?;
     types.add(
         node,
         Inferred {
@@ -171,8 +169,8 @@ fn type_operator<M: Ledger>(
     ensures err { IfErr result (λ error. (registry : Registry) (schema : Columns) → IsRight registry schema arena.now types.old → (t : Expression) →
         Denotes (HoldsExpression arena.now) node.0 t → IsRefusal (typing registry schema t) error) }
 {
-    typings.tick();
-    let own = binary_typing(op, &[left, right], types, arena.allocator())?;
+    let step = typings.step();
+    let own = binary_typing(op, &[left, right], types, arena.allocator(), step)?;
     types.add(node, own)
 }
 
@@ -239,12 +237,21 @@ fn type_over<M: Ledger>(
     ensures err { IfErr result (λ error. (t : Expression) → Denotes (HoldsExpression arena.now) node.0 t →
         IsRefusal (typing (registry udfs.now) (columns schema.now) t) error) }
 {
-    typings.tick();
-    let own = own_typing(node, item, inputs, types, schema, udfs, arena.allocator())?;
+    let step = typings.step();
+    let own = own_typing(
+        node,
+        item,
+        inputs,
+        types,
+        schema,
+        udfs,
+        arena.allocator(),
+        step,
+    )?;
     types.add(node, own)
 }
 
-/// What the rule of a node says, whose inputs are typed.
+/// What the rule of a node says, whose inputs are typed. The step is this use of it.
 #[inline(always)]
 pub(crate) fn own_typing(
     node: Node,
@@ -254,6 +261,7 @@ pub(crate) fn own_typing(
     schema: &Schema,
     udfs: &Udfs,
     alloc: Global,
+    step: Step,
 ) -> Result<Inferred, PlanError>
     requires listed { numbers inputs.now ≡ inputs_of (expression_layer item.now) }
     requires inputs { AllByRecursion (IsKept types.now) (numbers inputs.now) }
@@ -262,11 +270,11 @@ pub(crate) fn own_typing(
     ensures err { IfErr result (IsRefusal (typing_rule (registry udfs.now) (columns schema.now) (op_of (expression_layer item.now)) (typings_at types.now (numbers inputs.now)))) }
 {
     match item {
-        AExpr::Column(name) => column_typing(node, name, schema, alloc),
-        AExpr::Literal(value) => literal_typing(node, value, alloc),
-        AExpr::BinaryExpr { op, .. } => binary_typing(*op, inputs, types, alloc),
-        AExpr::Cast { dtype, .. } => cast_typing(dtype, inputs, types, alloc),
-        AExpr::Alias(..) => alias_typing(node, inputs, types, alloc),
+        AExpr::Column(name) => column_typing(node, name, schema, alloc, step),
+        AExpr::Literal(value) => literal_typing(node, value, alloc, step),
+        AExpr::BinaryExpr { op, .. } => binary_typing(*op, inputs, types, alloc, step),
+        AExpr::Cast { dtype, .. } => cast_typing(dtype, inputs, types, alloc, step),
+        AExpr::Alias(..) => alias_typing(node, inputs, types, alloc, step),
         AExpr::Function { function, .. } => function_typing(
             node,
             function,
@@ -274,8 +282,9 @@ pub(crate) fn own_typing(
             inputs,
             types,
             alloc,
+            step,
         ),
-        _ => signed_typing(node, signature(item), inputs, types, alloc),
+        _ => signed_typing(node, signature(item), inputs, types, alloc, step),
     }
 }
 
@@ -285,12 +294,13 @@ fn column_typing(
     name: &PlSmallStr,
     schema: &Schema,
     alloc: Global,
+    step: Step,
 ) -> Result<Inferred, PlanError>
     ensures ok { IfOk result (λ own. (registry : Registry) → IsRuled registry (columns schema.now) (ColumnOp name.now) [] own) }
     ensures name { IfOk result (λ own. own.name ≡ node) }
     ensures err { IfErr result (λ error. (registry : Registry) → IsRefusal (typing_rule registry (columns schema.now) (ColumnOp name.now) []) error) }
 {
-    let found = match column_dtype(name, schema) {
+    let found = match column_dtype(name, schema, step) {
         Ok(found) => found,
         Err(kind) => return Err(PlanError::at_top(kind)),
     };
@@ -305,7 +315,11 @@ fn column_typing(
 
 // The type of a column in the schema, which must be one of columns.
 #[inline(always)]
-fn column_dtype<'a>(name: &PlSmallStr, schema: &'a Schema) -> Result<&'a DataType, ErrorKind>
+fn column_dtype<'a>(
+    name: &PlSmallStr,
+    schema: &'a Schema,
+    _step: Step,
+) -> Result<&'a DataType, ErrorKind>
     ensures ok { IfOk result (λ dtype. (type_at (columns schema.now) name.now ≡ Some (ty dtype.now)) × (is_known (ty dtype.now) ≡ true)) }
     ensures err { IfErr result (λ kind. column_type (type_at (columns schema.now) name.now) ≡ Err kind) }
 {
@@ -319,12 +333,17 @@ fn column_dtype<'a>(name: &PlSmallStr, schema: &'a Schema) -> Result<&'a DataTyp
 }
 
 // A literal has its own type, which has its value.
-fn literal_typing(node: Node, value: &LiteralValue, alloc: Global) -> Result<Inferred, PlanError>
+fn literal_typing(
+    node: Node,
+    value: &LiteralValue,
+    alloc: Global,
+    step: Step,
+) -> Result<Inferred, PlanError>
     ensures ok { IfOk result (λ own. (registry : Registry) (schema : Columns) → IsRuled registry schema (literal_op value.now) [] own) }
     ensures name { IfOk result (λ own. own.name ≡ node) }
     ensures err { IfErr result (λ error. (registry : Registry) (schema : Columns) → IsRefusal (typing_rule registry schema (literal_op value.now) []) error) }
 {
-    let dtype = literal_dtype(value)?;
+    let dtype = literal_dtype(value, step)?;
     Ok(Inferred {
         name: node,
         dtype,
@@ -340,6 +359,7 @@ fn binary_typing(
     inputs: &[Node],
     types: &TypeTable,
     alloc: Global,
+    _step: Step,
 ) -> Result<Inferred, PlanError>
     requires two { length inputs.now ≡ 2 }
     requires inputs { AllByRecursion (IsKept types.now) (numbers inputs.now) }
@@ -363,6 +383,7 @@ fn cast_typing(
     inputs: &[Node],
     types: &TypeTable,
     alloc: Global,
+    _step: Step,
 ) -> Result<Inferred, PlanError>
     requires one { length inputs.now ≡ 1 }
     requires inputs { AllByRecursion (IsKept types.now) (numbers inputs.now) }
@@ -392,6 +413,7 @@ fn alias_typing(
     inputs: &[Node],
     types: &TypeTable,
     alloc: Global,
+    _step: Step,
 ) -> Result<Inferred, PlanError>
     requires one { length inputs.now ≡ 1 }
     requires inputs { AllByRecursion (IsKept types.now) (numbers inputs.now) }
@@ -410,7 +432,7 @@ fn alias_typing(
 }
 
 // The type of a literal, which must have its value: a number without a type has one for itself.
-fn literal_dtype(value: &LiteralValue) -> Result<DataType, PlanError>
+fn literal_dtype(value: &LiteralValue, _step: Step) -> Result<DataType, PlanError>
     ensures ok { IfOk result (λ dtype. literal_taken (literal_type value.now) (literal_value value.now)
         ≡ Ok (record { operands = []; type = ty dtype })) }
     ensures err { IfErr result (IsRefusal (literal_taken (literal_type value.now) (literal_value value.now))) }

@@ -11,3 +11,6 @@ invariant-loop-index l = record {
   right : IsRight (registry l.udfs) (columns l.schema) l.arena l.types;
   kept : AllByRecursion (IsKept l.types) (numbers (take l.index l.inputs));
 }
+
+abbrev pub ghosts-own_alone : goal.ghosts-own_alone
+ghosts-own_alone a = record { name = a.blank.name; parts = a.blank.parts }
