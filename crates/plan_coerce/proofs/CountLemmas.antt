@@ -20,7 +20,7 @@ use Rattle.plan_arena.proofs.ItemLemmas.{expression_laws, grown_held, layer_inpu
 use Rattle.plan_coerce.specs.Optimizer.{AreApart}
 use Rattle.plan_coerce.specs.Reaching.{Among, AreOnce, HasNodes, HaveNodes, IsReached, ReachedBy}
 use Rattle.plan_coerce.specs.Turns.{IsFound, IsPlaced, IsTurn, finds, places}
-use Rattle.plan_coerce.proofs.OnceLemmas.{among_back, among_front, among_split, nodes_kept, nodes_unwritten, nodes_within, once_apart, once_back, once_front, once_joined}
+use Rattle.plan_coerce.proofs.OnceLemmas.{SaidOfNodes, among_back, among_front, among_split, nodes_kept, nodes_unwritten, nodes_within, of_nodes, once_apart, once_back, once_front, once_joined}
 use Rattle.plan_coerce.proofs.ReachLemmas.{reached_near, root_near}
 use Rattle.plan_coerce.proofs.TurnLemmas.{found_grows, inputs_first, top_first}
 
@@ -33,76 +33,60 @@ module _ (items : List AExpr) where
   among_nodes tops ns first next zero n path = first n path
   among_nodes tops ns first next (suc steps) n path = next path.0 path.1 path.2 n (among_nodes tops ns first next steps path.0 path.3) path.4 path.5
 
-  mutual
-    nodes_closed : (r : ℕ) (t : Expression) (ns : List ℕ) → HasNodes items r t ns → (m : ℕ) (op : Op) (inputs : List ℕ) (n : ℕ) → Among ns m → HoldsExpression items m op inputs → Among inputs n → Among ns n
-    nodes_closed r (node o ts) ns h m op inputs n a held b =
-        subst (λ l. Among l n) (sym h.3) (⊎_elim
-        (λ e. inr (let same = layer_inputs o op h.0 inputs (some_same _ _ _ h.2 (subst (λ k. HoldsExpression items k op inputs) e held)) in roots_among h.0 ts h.1 h.4 n (subst (λ l. Among l n) (sym same) b)))
-        (λ c. inr (all_nodes_closed h.0 ts h.1 h.4 m op inputs n c held b))
-        (subst (λ l. Among l m) h.3 a))
+  abbrev Closed : List ℕ → Type 0
+  Closed ns = (m : ℕ) (op : Op) (inputs : List ℕ) (n : ℕ) → Among ns m → HoldsExpression items m op inputs → Among inputs n → Among ns n
 
-    all_nodes_closed : (rs : List ℕ) (ts : Trees Op) (ns : List ℕ) → HaveNodes items rs ts ns → (m : ℕ) (op : Op) (inputs : List ℕ) (n : ℕ) → Among ns m → HoldsExpression items m op inputs → Among inputs n → Among ns n
-    all_nodes_closed [] no_more ns h m op inputs n a held b = absurd (subst (λ l. Among l m) h a)
-    all_nodes_closed (r ∷ rs) (more t ts) ns h m op inputs n a held b =
-        subst (λ l. Among l n) (sym h.2) (⊎_elim
-        (λ c. among_front h.0 h.1 n (nodes_closed r t h.0 h.3 m op inputs n c held b))
-        (λ c. among_back h.0 h.1 n (all_nodes_closed rs ts h.1 h.4 m op inputs n c held b))
-        (among_split h.0 h.1 m (subst (λ l. Among l m) h.2 a)))
-    all_nodes_closed [] (more t ts) ns h m op inputs n a held b = absurd h
-    all_nodes_closed (r ∷ rs) no_more ns h m op inputs n a held b = absurd h
+  said_closed : SaidOfNodes items (λ r t ns. Closed ns × Among ns r) (λ rs ts ns. Closed ns × ((n : ℕ) → Among rs n → Among ns n))
+  said_closed = record {
+    top = λ r o is ts below held all. (
+      λ m op inputs n a here b. inr (⊎_elim
+          (λ e. let same = layer_inputs o op is inputs (some_same _ _ _ held (subst (λ k. HoldsExpression items k op inputs) e here)) in all.1 n (subst (λ l. Among l n) (sym same) b))
+          (λ c. all.0 m op inputs n c here b)
+          a),
+      inl refl,
+    );
+    none = (λ m op inputs n a held b. absurd a, λ n a. a);
+    next = λ r t rs ts front back one all. (
+      λ m op inputs n a held b. ⊎_elim (λ c. among_front front back n (one.0 m op inputs n c held b)) (λ c. among_back front back n (all.0 m op inputs n c held b)) (among_split front back m a),
+      λ n a. ⊎_elim (λ e. among_front front back n (subst (Among front) (sym e) one.1)) (λ b. among_back front back n (all.1 n b)) a,
+    );
+  }
 
-    root_among : (r : ℕ) (t : Expression) (ns : List ℕ) → HasNodes items r t ns → Among ns r
-    root_among r (node o ts) ns h = subst (λ l. Among l r) (sym h.3) (inl refl)
+  nodes_closed : (r : ℕ) (t : Expression) (ns : List ℕ) → HasNodes items r t ns → Closed ns × Among ns r
+  nodes_closed = of_nodes items (λ r t ns. Closed ns × Among ns r) (λ rs ts ns. Closed ns × ((n : ℕ) → Among rs n → Among ns n)) said_closed
 
-    roots_among : (rs : List ℕ) (ts : Trees Op) (ns : List ℕ) → HaveNodes items rs ts ns → (n : ℕ) → Among rs n → Among ns n
-    roots_among [] no_more ns h n a = absurd a
-    roots_among (r ∷ rs) (more t ts) ns h n a =
-        subst (λ l. Among l n) (sym h.2) (⊎_elim
-        (λ e. among_front h.0 h.1 n (subst (Among h.0) (sym e) (root_among r t h.0 h.3)))
-        (λ b. among_back h.0 h.1 n (roots_among rs ts h.1 h.4 n b))
-        a)
-    roots_among [] (more t ts) ns h n a = absurd h
-    roots_among (r ∷ rs) no_more ns h n a = absurd h
+  root_among : (r : ℕ) (t : Expression) (ns : List ℕ) → HasNodes items r t ns → Among ns r
+  root_among r t ns h = (nodes_closed r t ns h).1
 
   reached_among : (r : ℕ) (t : Expression) (ns : List ℕ) → HasNodes items r t ns → (n : ℕ) → IsReached items (r ∷ []) n → Among ns n
   reached_among r t ns h n reached =
-      among_nodes (r ∷ []) ns (λ m a. ⊎_elim (λ e. subst (Among ns) (sym e) (root_among r t ns h)) (λ b. absurd b) a) (nodes_closed r t ns h) reached.steps n reached.path
+      among_nodes (r ∷ []) ns (λ m a. ⊎_elim (λ e. subst (Among ns) (sym e) (root_among r t ns h)) (λ b. absurd b) a) (nodes_closed r t ns h).0 reached.steps n reached.path
 
   -- and each of them is reached
   pub under : (r m : ℕ) (op : Op) (inputs : List ℕ) → HoldsExpression items r op inputs → Among inputs m → (steps n : ℕ) → ReachedBy items (m ∷ []) steps n → ReachedBy items (r ∷ []) (suc steps) n
   under r m op inputs held a zero n path = (r, op, inputs, inl refl, held, ⊎_elim (λ e. subst (Among inputs) (sym e) a) (λ b. absurd b) path)
   under r m op inputs held a (suc steps) n path = (path.0, path.1, path.2, under r m op inputs held a steps path.0 path.3, path.4, path.5)
 
-  mutual
-    among_reached : (r : ℕ) (t : Expression) (ns : List ℕ) → HasNodes items r t ns → (n : ℕ) → Among ns n → IsReached items (r ∷ []) n
-    among_reached r (node o ts) ns h n a =
-        ⊎_elim
-        (λ e. record { steps = zero; path = inl e })
-        (λ b.
-        let r = each_reached h.0 ts h.1 h.4 n b in
-        record { steps = suc r.1.steps; path = under _ r.0 o h.0 h.2 r.2 r.1.steps n r.1.path })
-        (subst (λ l. Among l n) h.3 a)
+  abbrev Reached : List ℕ → List ℕ → Type 0
+  Reached rs ns = (n : ℕ) → Among ns n → (m : ℕ) × IsReached items (m ∷ []) n × Among rs m
 
-    each_reached : (rs : List ℕ) (ts : Trees Op) (ns : List ℕ) → HaveNodes items rs ts ns → (n : ℕ) → Among ns n → (m : ℕ) × IsReached items (m ∷ []) n × Among rs m
-    each_reached [] no_more ns h n a = absurd (subst (λ l. Among l n) h a)
-    each_reached (r ∷ rs) (more t ts) ns h n a =
-        ⊎_elim
-        (λ b. (r, among_reached r t h.0 h.3 n b, inl refl))
-        (λ b. let e = each_reached rs ts h.1 h.4 n b in (e.0, e.1, inr e.2))
-        (among_split h.0 h.1 n (subst (λ l. Among l n) h.2 a))
-    each_reached [] (more t ts) ns h n a = absurd h
-    each_reached (r ∷ rs) no_more ns h n a = absurd h
+  said_reached : SaidOfNodes items (λ r t ns. (n : ℕ) → Among ns n → IsReached items (r ∷ []) n) (λ rs ts ns. Reached rs ns)
+  said_reached = record {
+    top = λ r o is ts below held all n a. ⊎_elim (λ e. record { steps = zero; path = inl e }) (λ b. let m = all n b in record { steps = suc m.1.steps; path = under r m.0 o is held m.2 m.1.steps n m.1.path }) a;
+    none = λ n a. absurd a;
+    next = λ r t rs ts front back one all n a. ⊎_elim (λ b. (r, one n b, inl refl)) (λ b. let m = all n b in (m.0, m.1, inr m.2)) (among_split front back n a);
+  }
+
+  among_reached : (r : ℕ) (t : Expression) (ns : List ℕ) → HasNodes items r t ns → (n : ℕ) → Among ns n → IsReached items (r ∷ []) n
+  among_reached = of_nodes items (λ r t ns. (n : ℕ) → Among ns n → IsReached items (r ∷ []) n) (λ rs ts ns. Reached rs ns) said_reached
 
   -- a node that has a tree's nodes denotes it
-  mutual
-    nodes_denote : (n : ℕ) (t : Expression) (ns : List ℕ) → HasNodes items n t ns → Denotes (HoldsExpression items) n t
-    nodes_denote n (node op ts) ns h = (h.0, h.2, all_nodes_denote h.0 ts h.1 h.4)
-
-    all_nodes_denote : (rs : List ℕ) (ts : Trees Op) (ns : List ℕ) → HaveNodes items rs ts ns → DenoteAll (HoldsExpression items) rs ts
-    all_nodes_denote [] no_more ns h = tt
-    all_nodes_denote (r ∷ rs) (more t ts) ns h = (nodes_denote r t h.0 h.3, all_nodes_denote rs ts h.1 h.4)
-    all_nodes_denote [] (more t ts) ns h = absurd h
-    all_nodes_denote (r ∷ rs) no_more ns h = absurd h
+  nodes_denote : (n : ℕ) (t : Expression) (ns : List ℕ) → HasNodes items n t ns → Denotes (HoldsExpression items) n t
+  nodes_denote = of_nodes items (λ n t ns. Denotes (HoldsExpression items) n t) (λ rs ts ns. DenoteAll (HoldsExpression items) rs ts) (record {
+    top = λ n op inputs ts below held all. (inputs, held, all);
+    none = tt;
+    next = λ n t ns ts front back one all. (one, all);
+  })
 
 -- ---- what is owed
 

@@ -46,44 +46,75 @@ once_joined (m ∷ ms) ns a b apart =
 
 -- ---- nodes of trees
 
-module _ (old new : List AExpr) (keeps : (n : ℕ) (op : Op) (inputs : List ℕ) → HoldsExpression old n op inputs → HoldsExpression new n op inputs) where
-  mutual
-    pub nodes_kept : (n : ℕ) (t : Expression) (ns : List ℕ) → HasNodes old n t ns → HasNodes new n t ns
-    nodes_kept n (node op ts) ns h = (h.0, h.1, keeps n op h.0 h.2, h.3, all_nodes_kept h.0 ts h.1 h.4)
+-- What is said of a tree's nodes, and of those of trees side by side, from what is said below.
+pub record SaidOfNodes (items : List AExpr) (One : ℕ → Expression → List ℕ → Type 0) (All : List ℕ → Trees Op → List ℕ → Type 0) : Type 0 where
+  pub top : (n : ℕ) (op : Op) (inputs : List ℕ) (ts : Trees Op) (below : List ℕ) → HoldsExpression items n op inputs → All inputs ts below → One n (node op ts) (n ∷ below)
+  pub none : All [] no_more []
+  pub next : (n : ℕ) (t : Expression) (ns : List ℕ) (ts : Trees Op) (front back : List ℕ) → One n t front → All ns ts back → All (n ∷ ns) (more t ts) (front ++ back)
 
-    pub all_nodes_kept : (is : List ℕ) (ts : Trees Op) (ns : List ℕ) → HaveNodes old is ts ns → HaveNodes new is ts ns
-    all_nodes_kept [] no_more ns h = h
-    all_nodes_kept (n ∷ is) (more t ts) ns h = (h.0, h.1, h.2, nodes_kept n t h.0 h.3, all_nodes_kept is ts h.1 h.4)
-    all_nodes_kept [] (more t ts) ns h = absurd h
-    all_nodes_kept (n ∷ is) no_more ns h = absurd h
+module _ (items : List AExpr) (One : ℕ → Expression → List ℕ → Type 0) (All : List ℕ → Trees Op → List ℕ → Type 0) (said : SaidOfNodes items One All) where
+  mutual
+    pub of_nodes : (n : ℕ) (t : Expression) (ns : List ℕ) → HasNodes items n t ns → One n t ns
+    of_nodes n (node op ts) ns h = subst (One n (node op ts)) (sym h.3) (said.top n op h.0 ts h.1 h.2 (of_all_nodes h.0 ts h.1 h.4))
+
+    pub of_all_nodes : (is : List ℕ) (ts : Trees Op) (ns : List ℕ) → HaveNodes items is ts ns → All is ts ns
+    of_all_nodes [] no_more ns h = subst (All [] no_more) (sym h) said.none
+    of_all_nodes (n ∷ is) (more t ts) ns h = subst (All (n ∷ is) (more t ts)) (sym h.2) (said.next n t is ts h.0 h.1 (of_nodes n t h.0 h.3) (of_all_nodes is ts h.1 h.4))
+    of_all_nodes [] (more t ts) ns h = absurd h
+    of_all_nodes (n ∷ is) no_more ns h = absurd h
+
+module _ (old new : List AExpr) (keeps : (n : ℕ) (op : Op) (inputs : List ℕ) → HoldsExpression old n op inputs → HoldsExpression new n op inputs) where
+  said_kept : SaidOfNodes old (HasNodes new) (HaveNodes new)
+  said_kept = record {
+    top = λ n op inputs ts below held all. (inputs, below, keeps n op inputs held, refl, all);
+    none = refl;
+    next = λ n t ns ts front back one all. (front, back, refl, one, all);
+  }
+
+  pub nodes_kept : (n : ℕ) (t : Expression) (ns : List ℕ) → HasNodes old n t ns → HasNodes new n t ns
+  nodes_kept = of_nodes old (HasNodes new) (HaveNodes new) said_kept
+
+  pub all_nodes_kept : (is : List ℕ) (ts : Trees Op) (ns : List ℕ) → HaveNodes old is ts ns → HaveNodes new is ts ns
+  all_nodes_kept = of_all_nodes old (HasNodes new) (HaveNodes new) said_kept
 
 -- all of them are in the arena
 module _ (items : List AExpr) where
-  mutual
-    pub nodes_within : (n : ℕ) (t : Expression) (ns : List ℕ) → HasNodes items n t ns → (m : ℕ) → Among ns m → m < length items
-    nodes_within n (node op ts) ns h m a =
-        ⊎_elim (λ e. subst (λ k. k < length items) (sym e) (node_within items n op h.0 h.2)) (λ b. all_nodes_within h.0 ts h.1 h.4 m b) (subst (λ l. Among l m) h.3 a)
+  abbrev AllWithin : List ℕ → Type 0
+  AllWithin ns = (m : ℕ) → Among ns m → m < length items
 
-    pub all_nodes_within : (is : List ℕ) (ts : Trees Op) (ns : List ℕ) → HaveNodes items is ts ns → (m : ℕ) → Among ns m → m < length items
-    all_nodes_within [] no_more ns h m a = absurd (subst (λ l. Among l m) h a)
-    all_nodes_within (n ∷ is) (more t ts) ns h m a =
-        ⊎_elim (λ b. nodes_within n t h.0 h.3 m b) (λ b. all_nodes_within is ts h.1 h.4 m b) (among_split h.0 h.1 m (subst (λ l. Among l m) h.2 a))
-    all_nodes_within [] (more t ts) ns h m a = absurd h
-    all_nodes_within (n ∷ is) no_more ns h m a = absurd h
+  said_within : SaidOfNodes items (λ n t ns. AllWithin ns) (λ is ts ns. AllWithin ns)
+  said_within = record {
+    top = λ n op inputs ts below held all m a. ⊎_elim (λ e. subst (λ k. k < length items) (sym e) (node_within items n op inputs held)) (λ b. all m b) a;
+    none = λ m a. absurd a;
+    next = λ n t ns ts front back one all m a. ⊎_elim (λ b. one m b) (λ b. all m b) (among_split front back m a);
+  }
+
+  pub nodes_within : (n : ℕ) (t : Expression) (ns : List ℕ) → HasNodes items n t ns → (m : ℕ) → Among ns m → m < length items
+  nodes_within = of_nodes items (λ n t ns. AllWithin ns) (λ is ts ns. AllWithin ns) said_within
+
+  pub all_nodes_within : (is : List ℕ) (ts : Trees Op) (ns : List ℕ) → HaveNodes items is ts ns → (m : ℕ) → Among ns m → m < length items
+  all_nodes_within = of_all_nodes items (λ n t ns. AllWithin ns) (λ is ts ns. AllWithin ns) said_within
 
 -- trees that don't have the node stay where its item is written
 module _ (old : List AExpr) (at : ℕ) (item : AExpr) where
-  mutual
-    pub nodes_unwritten : (n : ℕ) (t : Expression) (ns : List ℕ) → HasNodes old n t ns → (Among ns at → ⊥) → HasNodes (set old at item) n t ns
-    nodes_unwritten n (node op ts) ns h apart =
-        (h.0, h.1, expression_elsewhere old at item n op h.0 (λ e. apart (subst (λ l. Among l at) (sym h.3) (inl (sym e)))) h.2, h.3, all_nodes_unwritten h.0 ts h.1 h.4 (λ a. apart (subst (λ l. Among l at) (sym h.3) (inr a))))
+  abbrev One : ℕ → Expression → List ℕ → Type 0
+  One n t ns = (Among ns at → ⊥) → HasNodes (set old at item) n t ns
 
-    pub all_nodes_unwritten : (is : List ℕ) (ts : Trees Op) (ns : List ℕ) → HaveNodes old is ts ns → (Among ns at → ⊥) → HaveNodes (set old at item) is ts ns
-    all_nodes_unwritten [] no_more ns h apart = h
-    all_nodes_unwritten (n ∷ is) (more t ts) ns h apart =
-        (h.0, h.1, h.2, nodes_unwritten n t h.0 h.3 (λ a. apart (subst (λ l. Among l at) (sym h.2) (among_front h.0 h.1 at a))), all_nodes_unwritten is ts h.1 h.4 (λ a. apart (subst (λ l. Among l at) (sym h.2) (among_back h.0 h.1 at a))))
-    all_nodes_unwritten [] (more t ts) ns h apart = absurd h
-    all_nodes_unwritten (n ∷ is) no_more ns h apart = absurd h
+  abbrev All : List ℕ → Trees Op → List ℕ → Type 0
+  All is ts ns = (Among ns at → ⊥) → HaveNodes (set old at item) is ts ns
+
+  said_unwritten : SaidOfNodes old One All
+  said_unwritten = record {
+    top = λ n op inputs ts below held all apart. (inputs, below, expression_elsewhere old at item n op inputs (λ e. apart (inl (sym e))) held, refl, all (λ a. apart (inr a)));
+    none = λ apart. refl;
+    next = λ n t ns ts front back one all apart. (front, back, refl, one (λ a. apart (among_front front back at a)), all (λ a. apart (among_back front back at a)));
+  }
+
+  pub nodes_unwritten : (n : ℕ) (t : Expression) (ns : List ℕ) → HasNodes old n t ns → (Among ns at → ⊥) → HasNodes (set old at item) n t ns
+  nodes_unwritten = of_nodes old One All said_unwritten
+
+  pub all_nodes_unwritten : (is : List ℕ) (ts : Trees Op) (ns : List ℕ) → HaveNodes old is ts ns → (Among ns at → ⊥) → HaveNodes (set old at item) is ts ns
+  all_nodes_unwritten = of_all_nodes old One All said_unwritten
 
 -- ---- nodes that are added
 
