@@ -77,7 +77,7 @@ no_operands [] targets = refl
 no_operands (from ∷ types) [] = refl
 no_operands (from ∷ types) (target ∷ targets) = refl
 
-bare_by : (found : Result Ruling ErrorKind) (types : List Ty) → fitted_by found types no_more ≡ no_more
+pub bare_by : (found : Result Ruling ErrorKind) (types : List Ty) → fitted_by found types no_more ≡ no_more
 bare_by (Err kind) types = refl
 bare_by (Ok ruling) types = no_operands types ruling.operands
 

@@ -1,5 +1,5 @@
 -- The rule of coercion: nodes that are strict, and what is put in place of others.
-use Rattle.std.proofs.Common.{◌≡◌, ◌≢◌, ◌&&◌, not, ℕ, zero, suc, None, is_some, ℤ, ◌<◌, ◌≤◌, Bool, true, false, cond, List, [], ◌∷◌, length, map, set, Option, Some, Ok, Err, slice_get, slice_index_or, refl, sym, ap, ◌∙◌, subst, arith, zero-le, inl, ⊎_elim}
+use Rattle.std.proofs.Common.{◌≡◌, ◌≢◌, ◌&&◌, not, ℕ, zero, suc, None, is_some, ℤ, ◌<◌, ◌≤◌, Bool, true, false, List, [], ◌∷◌, length, map, set, Option, Some, Ok, Err, slice_get, slice_index_or, refl, sym, ap, ◌∙◌, subst, arith, zero-le, inl, ⊎_elim}
 use Rattle.std.specs.List.{AllByRecursion}
 use Rattle.std.specs.Prelude.{MatchOption}
 use Rattle.std.proofs.Math.ListN.{length-set}
@@ -13,7 +13,7 @@ use Rattle.plan_types.proofs.ListLemmas.{slice_get-append}
 use Rattle.plan_dsl.specs.Registry.{Registry}
 use Rattle.plan_dsl.specs.Literals.{is_literal_of, literal_op, settled, settled_type}
 use Rattle.plan_dsl.specs.Aliases.{is_core_op, renamed}
-use Rattle.plan_dsl.specs.Ops.{AliasOp, LiteralOp, Expression}
+use Rattle.plan_dsl.specs.Ops.{AliasOp, CastOp, LiteralOp, Expression}
 use Rattle.plan_dsl.specs.Strictness.{is_strict_over, is_strict_rule, number_as, number_literal, same_types}
 use Rattle.plan_dsl.specs.Trees.{node, no_more}
 use Rattle.plan_dsl.specs.Typing.{Typed, types_of, typing}
@@ -33,16 +33,18 @@ use Rattle.plan_infer.specs.declared.type_table.Inferred.{Inferred}
 use Rattle.plan_infer.specs.declared.type_table.TypeTable.{TypeTable}
 use Rattle.plan_infer.specs.KeptTypes.{Extends, HasRightTypes, IsKept, IsRight, KeepsEntry, typed_of, typings_at}
 use Rattle.plan_infer.specs.Typed.{HasType}
-use Rattle.plan_infer.proofs.TableLemmas.{children_kept, kept_typing, layer_held, over_kept, ruled_inputs}
-use Rattle.plan_coerce.specs.Coercion.{AllStrictFrom, AreChanged, IsOver, IsOverOperands, KeepsStrict, TakesOperands}
+use Rattle.plan_infer.proofs.TableLemmas.{children_kept, kept_typing, known_typed, layer_held, over_kept, ruled_inputs}
+use Rattle.plan_coerce.specs.Coercion.{AllStrictFrom, AreChanged, ChangesType, IsOver, IsOverOperands, KeepsStrict, TakesOperands, coerced}
+use Rattle.plan_coerce.specs.InlinedCasts.{IsTypedNode, inlined, until_gone}
 use Rattle.plan_coerce.specs.Reaching.{AreMadeOnce, IsClosed, IsReached, Near}
-use Rattle.plan_coerce.specs.Rules.{CanReplace, HasSameCasts, IsLike, IsReplacement, is_strict_node, said, until_strict}
+use Rattle.plan_coerce.specs.Rules.{CanReplace, HasSameWritten, IsLike, IsReplacement, is_strict_node, said, until_settled}
 use Rattle.plan_coerce.proofs.FrameLemmas.{on_frames}
 use Rattle.plan_coerce.proofs.CoercionLemmas.{not_renamed, own_literal, rewritten, plain_strict, takes_listed, under_alias}
 use Rattle.plan_coerce.proofs.OnceLemmas.{over_once}
 use Rattle.plan_coerce.proofs.ReachLemmas.{changed_near, closed_put, closed_start, held_unwritten, inputs_near, new_kept, reached_near, root_near}
 use Rattle.plan_coerce.proofs.SettledLemmas.{known_settled, literal_typed, number_settled, own_number}
 use Rattle.plan_coerce.proofs.RightLemmas.{kept_within, node_within, right_rewritten}
+use Rattle.plan_coerce.proofs.ToldLemmas.{loose_turns, new_few, number_gone, strict_turns}
 
 and_true : (b : Bool) → (b && true) ≡ b
 and_true b = elim b as (λ x. (x && true) ≡ x) [ true ↦ refl | false ↦ refl ]
@@ -178,11 +180,20 @@ new_strict registry schema items table n right k t d =
     let item = item_there items n t d in
     kept_strict registry schema items table right n k.own k.keeps item.0 item.1 k.none k.known t d
 
-falls_to : (registry : Registry) (schema : Columns) (t before : Expression) → said (is_strict_node registry schema) registry schema t ≡ true → said (is_strict_node registry schema) registry schema before ≡ false → said (until_strict registry schema) registry schema t < said (until_strict registry schema) registry schema before
-falls_to registry schema (node op ts) (node op' us) a b =
-    let zero : said (until_strict registry schema) registry schema (node op ts) ≡ 0 = ap (λ x. cond x 0 1) a in
-    let one : said (until_strict registry schema) registry schema (node op' us) ≡ 1 = ap (λ x. cond x 0 1) b in
-    omega (arith, zero, one)
+-- what is strict and goes soon is replaced less often than what isn't
+falls_to : (registry : Registry) (schema : Columns) (t before : Expression) → said (is_strict_node registry schema) registry schema t ≡ true → said (is_strict_node registry schema) registry schema before ≡ false → until_gone (coerced registry schema t) ≤ 1 → until_settled registry schema t < until_settled registry schema before
+falls_to registry schema t before a b few =
+    let strict = strict_turns registry schema t a in
+    let loose = loose_turns registry schema before b in
+    omega (arith, strict, loose, few)
+
+-- so is what is strict and the same with every cast written out
+falls_by : (registry : Registry) (schema : Columns) (t before : Expression) → said (is_strict_node registry schema) registry schema t ≡ true → said (is_strict_node registry schema) registry schema before ≡ false → coerced registry schema t ≡ coerced registry schema before → until_settled registry schema t < until_settled registry schema before
+falls_by registry schema t before a b same =
+    let strict = strict_turns registry schema t a in
+    let loose = loose_turns registry schema before b in
+    let gone = ap until_gone same in
+    omega (arith, strict, loose, gone)
 
 module _ (registry : Registry) (schema : Columns) (old new : List AExpr) (table table' : TypeTable) (at : ℕ) (item : AExpr) (own : Inferred) (right : IsRight registry schema old table) (keeps : KeepsEntry table at own) (g : Grows old new) (right' : IsRight registry schema new table') (added : AllStrictFrom (length old) new table') (closed : IsClosed old (at ∷ []) (set new at item)) where
   before_there : at < length old
@@ -194,13 +205,13 @@ module _ (registry : Registry) (schema : Columns) (old new : List AExpr) (table 
       (λ le.
       let within = node_within (set new at item) n (LiteralOp (Untyped number) value) inputs held in
       let other : n ≢ at = λ e. omega (arith, le, e, before_there) in
-      let k = added n le (omega (arith, within, length-set new at item)) in
+      let k = (added n le (omega (arith, within, length-set new at item))).0 in
       absurd (strict_no_number registry schema new table' n number value inputs right' k (held_unwritten new at item n (LiteralOp (Untyped number) value) inputs other held)))
       (λ r. r)
       (reached_near old (at ∷ []) (set new at item) (at ∷ []) n closed (root_near old at, tt) reached)
 
   -- a number that gets its type
-  pub number_replaced : (number : ℤ) → ty own.dtype ≡ Untyped number → IsClosed old [] new → (t : Expression) → Denotes (HoldsExpression old) at t → (HasType (typing registry schema t) (Untyped number) → Denotes (HoldsExpression (set new at item)) at (settled t)) → IsReplacement (HasSameCasts registry schema) (said (until_strict registry schema) registry schema) registry schema old (set new at item) at t
+  pub number_replaced : (number : ℤ) → ty own.dtype ≡ Untyped number → IsClosed old [] new → (t : Expression) → Denotes (HoldsExpression old) at t → (HasType (typing registry schema t) (Untyped number) → Denotes (HoldsExpression (set new at item)) at (settled t)) → IsReplacement (HasSameWritten registry schema) (until_settled registry schema) registry schema old (set new at item) at t
   number_replaced number is apart t d settles =
       let typed = kept_typing registry schema old table right at own keeps t d in
       let number_typed = typed ∙ ap (λ x. Ok (record { type = x; many = own.many })) is in
@@ -214,18 +225,20 @@ module _ (registry : Registry) (schema : Columns) (old new : List AExpr) (table 
         like = λ typed h. record { same = on_frames registry schema (settled t) (settled t) (same_itself registry schema (settled t)); relates = refl };
         ill_typed = λ kind h. let differs : Ok (typed_of own) ≡ Err kind = sym typed ∙ h in cc;
         known = λ typed h. settled_known registry schema t typed h;
-        falls = falls_to registry schema (settled t) t s.strict loose;
+        falls =
+            let gone = number_gone registry schema t (record { type = Untyped number; many = own.many }) number_typed refl in
+            falls_to registry schema (settled t) t s.strict loose (omega (arith, gone));
         fresh = λ n u le reached du.
             let within = any_within (set new at item) n u du in
             let k = added n le (omega (arith, within, length-set new at item)) in
-            let e = right'.each n k.own k.keeps in
+            let e = right'.each n k.0.own k.0.keeps in
             let one = denotes_one (shape_of (map expression_layer (set new at item))) (HoldsExpression (set new at item)) (expression_laws (set new at item)) n e.tree u (new_kept old new at item before_there apart n e.tree (inl le) e.denotes) du in
-            falls_to registry schema u t (subst (λ w. said (is_strict_node registry schema) registry schema w ≡ true) one (new_strict registry schema new table' n right' k e.tree e.denotes)) loose;
+            falls_to registry schema u t (subst (λ w. said (is_strict_node registry schema) registry schema w ≡ true) one (new_strict registry schema new table' n right' k.0 e.tree e.denotes)) loose (subst (λ w. until_gone (coerced registry schema w) ≤ 1) one (new_few registry schema new table' right' n k.0.own k.0.keeps k.1 e.tree e.denotes));
         numbers = old_numbers;
       }
 
   -- a node over operands that were made of their types
-  pub node_replaced : is_known (ty own.dtype) ≡ true → own.operands ≢ [] → (over : IsOverOperands old new table table' at item) → false ≡ same_types (types_of (typings_at table (inputs_of (expression_layer over.before)))) (map ty own.operands) → IsRight registry schema (set new at item) table' → (t : Expression) → Denotes (HoldsExpression old) at t → IsReplacement (HasSameCasts registry schema) (said (until_strict registry schema) registry schema) registry schema old (set new at item) at t
+  pub node_replaced : is_known (ty own.dtype) ≡ true → own.operands ≢ [] → (over : IsOverOperands old new table table' at item) → false ≡ same_types (types_of (typings_at table (inputs_of (expression_layer over.before)))) (map ty own.operands) → IsRight registry schema (set new at item) table' → (t : Expression) → Denotes (HoldsExpression old) at t → IsReplacement (HasSameWritten registry schema) (until_settled registry schema) registry schema old (set new at item) at t
   node_replaced known some over differs placed t d =
       let typed = kept_typing registry schema old table right at own keeps t d in
       let loose = listed_strict registry schema old table right at own keeps over.before over.got some known false differs t d in
@@ -236,16 +249,18 @@ module _ (registry : Registry) (schema : Columns) (old new : List AExpr) (table 
       record {
         tree = node r.op r.children;
         denotes = any_node 0 (set new at item) at (node r.op r.children) (r.inputs, r.held, r.denotes);
-        like = λ other h. subst (λ w. IsLike (HasSameCasts registry schema) registry schema w (node r.op r.children)) (sym stays) (record { same = on_frames registry schema t (node r.op r.children) r.same.same; relates = r.same.casts });
+        like = λ other h. subst (λ w. IsLike (HasSameWritten registry schema) registry schema w (node r.op r.children)) (sym stays) (record { same = on_frames registry schema t (node r.op r.children) r.same.same; relates = ap inlined r.same.casts });
         ill_typed = λ kind h. let differs : Ok (typed_of own) ≡ Err kind = sym typed ∙ h in cc;
         known = λ other h.
             let is = ok_same (typing registry schema (node r.op r.children)) other (typed_of own) h (r.same.same.typing ∙ typed) in
             ap (λ (x : Typed). is_known x.type) is ∙ known;
-        falls = falls_to registry schema (node r.op r.children) t (r.strict known) loose;
+        falls = falls_by registry schema (node r.op r.children) t (r.strict known) loose r.same.casts;
         fresh = λ n u le reached du.
             let within = any_within (set new at item) n u du in
             let k = added n le (omega (arith, within, length-set new at item)) in
-            falls_to registry schema u t (new_strict registry schema (set new at item) table' n placed k u du) loose;
+            let other : n ≢ at = λ e. omega (arith, le, e, before_there) in
+            let changes : ChangesType (set new at item) table' n = λ target options i held. k.1 target options i (held_unwritten new at item n (CastOp target options) (i ∷ []) other held) in
+            falls_to registry schema u t (new_strict registry schema (set new at item) table' n placed k.0 u du) loose (new_few registry schema (set new at item) table' placed n k.0.own k.0.keeps changes u du);
         numbers = old_numbers;
       }
 
@@ -265,6 +280,12 @@ module _ (registry : Registry) (schema : Columns) (items : List AExpr) (table : 
   type_number number is =
       let e = right.each n own keeps in
       number_alone registry schema number e.tree own.many (e.typed ∙ ap (λ x. Ok (record { type = x; many = own.many })) is)
+
+-- a node of which a type is kept
+pub kept_node : (items : List AExpr) (table : TypeTable) (n : ℕ) → HasRightTypes items table → IsKept table n → IsTypedNode items n
+kept_node items table n is k =
+    let d = known_typed is.registry is.schema items table is.right n k in
+    record { registry = is.registry; schema = is.schema; tree = d.tree; denotes = any_node 0 items n d.tree d.denotes; typed = d.typed; is = d.is }
 
 -- a type of which no number is found is none of a number alone
 pub no_number : (found : Option ℤ) (none : Bool) (type : Ty) → is_some found ≡ not none → none ≡ true → MatchOption found ((number : ℤ) → type ≢ Untyped number) (λ number. type ≡ Untyped number) → (number : ℤ) → type ≢ Untyped number

@@ -16,7 +16,6 @@ use Rattle.plan_dsl.specs.Registry.{Registry}
 use Rattle.plan_dsl.specs.Ops.{Op, BinaryOp, LenOp, LiteralOp, Expression}
 use Rattle.plan_dsl.specs.declared.operator.Operator.TheVariants.{Eq, Plus}
 use Rattle.plan_dsl.specs.Trees.{Trees, node, no_more, more}
-use Rattle.plan_dsl.specs.Strictness.{IsStrict}
 use Rattle.plan_dsl.specs.Typing.{Typed, typing}
 use Rattle.plan_dsl.proofs.TypingLemmas.{ok_same}
 use Rattle.plan_dsl.specs.declared.literal.LiteralValue.TheVariants.{Int}
@@ -33,10 +32,10 @@ use Rattle.plan_arena.proofs.DenotationLemmas.{denotes_one, some_same}
 use Rattle.plan_arena.proofs.ItemLemmas.{expression_laws, layer_inputs, plan_got, plan_laws, within}
 use Rattle.plan_coerce.specs.Optimizer.{AreRoots, DenotesLike, IsNumberRoot, IsTypedRoot}
 use Rattle.plan_coerce.specs.Reaching.{Among, AreOnce, HasNodes, HaveNodes, Near, ReachedBy}
-use Rattle.plan_coerce.specs.Rules.{IsSettledPlan, HasAcceptedInputs, HasSameCasts, IsPlanNode, IsReplacement, IsSameOnFrames, SettlesNoNumber, StandsOver, has_truth, is_strict_node, said, until_strict}
+use Rattle.plan_coerce.specs.Rules.{IsSettledPlan, HasAcceptedInputs, HasSameWritten, IsPlanNode, IsReplacement, IsSameOnFrames, SettlesNoNumber, StandsOver, has_truth, is_settled, until_settled}
 use Rattle.plan_coerce.specs.Samples.{named_twice, wide, cast_of, strict_items, strict_sum, equal_items, filter_by, filters, scan_and, IsSumFound, IsSumPlaced}
 use Rattle.plan_coerce.specs.Unchecked.{GoesInto, HasUncheckedSchema, KeepsOtherRules, unchecked_schema}
-use Rattle.plan_coerce.proofs.SettledLemmas.{settles_no_number}
+use Rattle.plan_coerce.proofs.SettledLemmas.{settled_no_number}
 use Rattle.plan_coerce.proofs.UncheckedLemmas.{schema_recorded_is}
 use Rattle.plan_infer.specs.Typed.{HasKnownType}
 use Rattle.plan_infer.specs.Samples.{int32, two_columns, of_type, a, b, five, binary, sum, pair, columns_and, sum_items, a_items}
@@ -55,10 +54,6 @@ other_name e = let differs : false ≡ true = ap (same_name (codes "a")) e in cc
 
 pub other_label : column_label (codes "b") ≡ column_label (codes "a") → ⊥
 other_label e = other_name (ap (λ (label : Label). label.name) e)
-
--- a root's tree is strict
-pub strict_root : (registry : Registry) (schema : Columns) (items : List AExpr) (n : ℕ) (tree : Expression) → ((t : Expression) × Denotes (HoldsExpression items) n t × IsStrict registry schema t) → Denotes (HoldsExpression items) n tree → IsStrict registry schema tree
-strict_root registry schema items n tree root d = subst (IsStrict registry schema) (one_denoted items n root.0 tree root.1 d) root.2
 
 -- what a node denotes says the same
 pub same_tree : (related : Expression → Expression → Type 0) (registry : Registry) (schema : Columns) (items : List AExpr) (n : ℕ) (before tree : Expression) → DenotesLike related registry schema items n before → Denotes (HoldsExpression items) n tree → IsSameOnFrames registry schema before tree
@@ -120,15 +115,15 @@ strict_once = (
   ),
 )
 
-wide_measured : said (until_strict [] two_columns) [] two_columns wide < 1
+wide_measured : until_settled [] two_columns wide < 2
 wide_measured = omega arith
 
-new_measured : (n : ℕ) (t : Expression) → 3 ≤ n → Denotes (HoldsExpression strict_items) n t → said (until_strict [] two_columns) [] two_columns t < 1
+new_measured : (n : ℕ) (t : Expression) → 3 ≤ n → Denotes (HoldsExpression strict_items) n t → until_settled [] two_columns t < 2
 new_measured zero t le d = absurd (omega (arith, le))
 new_measured (suc zero) t le d = absurd (omega (arith, le))
 new_measured (suc (suc zero)) t le d = absurd (omega (arith, le))
 new_measured (suc (suc (suc zero))) t le d =
-    subst (λ u. said (until_strict [] two_columns) [] two_columns u < 1) (one_denoted strict_items 3 wide t (0 ∷ [], refl, (([], refl, tt), tt)) d) wide_measured
+    subst (λ u. until_settled [] two_columns u < 2) (one_denoted strict_items 3 wide t (0 ∷ [], refl, (([], refl, tt), tt)) d) wide_measured
 new_measured (suc (suc (suc (suc n)))) t le d = absurd (no_node strict_items (suc (suc (suc (suc n)))) t (omega arith) d)
 
 no_numbers : (n : ℕ) (number : ℤ) (value : Val) (inputs : List ℕ) → HoldsExpression strict_items n (LiteralOp (Untyped number) value) inputs → ⊥
@@ -138,7 +133,7 @@ no_numbers (suc (suc zero)) number value inputs h = cc
 no_numbers (suc (suc (suc zero))) number value inputs h = cc
 no_numbers (suc (suc (suc (suc n)))) number value inputs h = cc
 
-pub sum_replaced : IsReplacement (HasSameCasts [] two_columns) (said (until_strict [] two_columns) [] two_columns) [] two_columns sum_items strict_items 2 sum
+pub sum_replaced : IsReplacement (HasSameWritten [] two_columns) (until_settled [] two_columns) [] two_columns sum_items strict_items 2 sum
 sum_replaced = record {
   tree = strict_sum;
   denotes = strict_denotes;
@@ -167,8 +162,8 @@ sum_placed = record {
   grows = record { added = cast_of 0 Int32 ∷ []; longer = refl };
   item = pair 3 Plus 1;
   is = refl;
-  answer = λ t d. subst (IsReplacement (HasSameCasts [] two_columns) (said (until_strict [] two_columns) [] two_columns) [] two_columns sum_items strict_items 2) (one_denoted sum_items 2 sum t sum_denotes d) sum_replaced;
-  numbers = λ t typed d is unknown. settles_no_number [] two_columns;
+  answer = λ t d. subst (IsReplacement (HasSameWritten [] two_columns) (until_settled [] two_columns) [] two_columns sum_items strict_items 2) (one_denoted sum_items 2 sum t sum_denotes d) sum_replaced;
+  numbers = λ t typed d is unknown. settled_no_number [] two_columns;
   reaches = λ n is m op inputs near h. all_near_sum inputs;
   once = λ n is t ns h once. (strict_sum, 2 ∷ 3 ∷ 0 ∷ 1 ∷ [], strict_nodes, strict_once);
 }
@@ -180,7 +175,7 @@ sum_not_found new found = let settled : false ≡ true = found.is sum sum_denote
 pub sum_not_left : IsSumPlaced sum_items sum_items 2 → ⊥
 sum_not_left placed =
     let r = placed.answer sum sum_denotes in
-    let falls : 1 < 1 = subst (λ (t : Expression). said (until_strict [] two_columns) [] two_columns t < 1) (one_denoted sum_items 2 r.tree sum r.denotes sum_denotes) r.falls in
+    let falls : 2 < 2 = subst (λ (t : Expression). until_settled [] two_columns t < 2) (one_denoted sum_items 2 r.tree sum r.denotes sum_denotes) r.falls in
     omega (arith, falls)
 
 pub sum_nodes : HasNodes sum_items 2 sum (2 ∷ 0 ∷ 1 ∷ [])
@@ -355,7 +350,7 @@ none_beside root [] back m is n among =
 none_beside root (f ∷ []) back m is n among = cc
 none_beside root (f ∷ g ∷ fs) back m is n among = cc
 
-pub number_alone : AreRoots (said (is_strict_node [] []) [] []) [] [] number_items (0 ∷ [])
+pub number_alone : AreRoots (is_settled [] []) [] [] number_items (0 ∷ [])
 number_alone = record { each = (inr number_root, tt); apart = λ front back m is number n among reaches. none_beside 0 front back m is n among }
 
 -- a column that isn't there has no type
@@ -364,8 +359,8 @@ no_column_typed t typed d is =
     let none : Err ColumnNotFound ≡ Ok typed = subst (λ u. typing [] [] u ≡ Ok typed) (one_denoted a_items 0 t a d ([], refl, tt)) is in
     cc
 
-pub no_column_root : AreRoots (said (is_strict_node [] []) [] []) [] [] a_items (0 ∷ []) → ⊥
-no_column_root roots = ⊎_elim (λ (r : IsTypedRoot (said (is_strict_node [] []) [] []) [] [] a_items 0). no_column_typed r.tree r.typed r.denotes r.is) (λ (r : IsNumberRoot [] [] a_items 0). no_column_typed r.tree (record { type = Untyped r.number; many = r.many }) r.denotes r.is) roots.each.0
+pub no_column_root : AreRoots (is_settled [] []) [] [] a_items (0 ∷ []) → ⊥
+no_column_root roots = ⊎_elim (λ (r : IsTypedRoot (is_settled [] []) [] [] a_items 0). no_column_typed r.tree r.typed r.denotes r.is) (λ (r : IsNumberRoot [] [] a_items 0). no_column_typed r.tree (record { type = Untyped r.number; many = r.many }) r.denotes r.is) roots.each.0
 
 -- a rule that calls every node settled settles numbers without a type
 pub any_settled : SettlesNoNumber (λ t. true) [] [] → ⊥

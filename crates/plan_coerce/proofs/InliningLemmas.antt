@@ -23,14 +23,12 @@ use Rattle.plan_dsl.specs.Meaning.{meaning, meaning_all, applied, node_meaning, 
 use Rattle.plan_dsl.specs.OperatorTypes.{is_truth_or_null, pair_to, truth_types, with_types}
 use Rattle.plan_dsl.specs.Ops.{Op, LiteralOp, BinaryOp, CastOp, Expression}
 use Rattle.plan_dsl.specs.Registry.{Registry}
-use Rattle.plan_dsl.specs.Strictness.{IsSame, IsStrict, AllStrict, is_strict, are_strict, is_strict_over, is_strict_rule}
+use Rattle.plan_dsl.specs.Strictness.{IsSame, IsStrict, is_strict_over, is_strict_rule}
 use Rattle.plan_dsl.specs.Trees.{Trees, node, no_more, more, AllRelated}
 use Rattle.plan_dsl.specs.Typing.{Typed, Ruling, cast_taken, own_typed, rule, ruled_as, some_many, then_typed, typed_before, types_of, typing, typing_all, typing_rule}
 use Rattle.plan_dsl.proofs.CastMeaningLemmas.{cast_own, if_true}
 use Rattle.plan_dsl.proofs.LiteralLemmas.{literal_means, literal_typing}
-use Rattle.plan_dsl.proofs.SameLemmas.{node_same, same_itself, same_then, typings_same}
-use Rattle.plan_dsl.proofs.SignatureLemmas.{target_known}
-use Rattle.plan_dsl.proofs.StrictLemmas.{strict_parts}
+use Rattle.plan_dsl.proofs.SameLemmas.{node_same, same_itself, same_then}
 use Rattle.plan_dsl.proofs.TypingLemmas.{ok_same, typed_parts}
 use Rattle.plan_coerce.specs.InlinedCasts.{all_inlined, cast_of, converted, in_place_of, inlined, is_logical, literal_cast, literal_given, literal_with}
 
@@ -201,41 +199,11 @@ module _ (registry : Registry) (schema : Columns) where
     all_inlined_same no_more = tt
     all_inlined_same (more tree trees) = (inlined_same tree, all_inlined_same trees)
 
-  -- what is strict stays so
-  literal_strict : (target : Ty) (made : Val) → is_known target ≡ true → is_literal target made ≡ true → IsStrict registry schema (node (LiteralOp target made) no_more)
+  -- what stands for a cast of a literal is strict
+  pub literal_strict : (target : Ty) (made : Val) → is_known target ≡ true → is_literal target made ≡ true → IsStrict registry schema (node (LiteralOp target made) no_more)
   literal_strict target made known fits =
       let ruled : rule registry schema (LiteralOp target made) [] ≡ Ok (record { operands = []; own = record { type = target; many = false } }) = ap (λ b. ruled_as (cond b (Ok (record { operands = []; type = target })) (Err InvalidOperation)) false) fits in
       and_from (is_strict_over registry schema (LiteralOp target made) (Ok [])) true (ap (is_strict_rule []) ruled ∙ known) refl
-
-  cast_strict : (target : Ty) (options : CastOptions) (x : Expression) → IsStrict registry schema x → (e : Expression) → cast_of target options x ≡ Some e → IsStrict registry schema e
-  cast_strict target options (node (LiteralOp from value) no_more) strict e h =
-      let g = gives_literal from value target options e h in
-      subst (IsStrict registry schema) (sym g.is) (literal_strict target g.made (target_known from target g.casts) g.fits)
-  cast_strict target options (node (BinaryOp operator) operands) strict e h =
-      subst (IsStrict registry schema) (sym (some_where (is_logical operator && same_type Truth target) (node (BinaryOp operator) operands) e h).1) strict
-  cast_strict target options (node op operands) strict e h = cc
-
-  placed_strict : (op : Op) (us : Trees Op) → IsStrict registry schema (node op us) → AllStrict registry schema us → (found : Option Expression) → in_place_of op us ≡ found → IsStrict registry schema (unwrap_or found (node op us))
-  placed_strict op us strict below None is = strict
-  placed_strict (CastOp target options) (more x no_more) strict below (Some e) is =
-      cast_strict target options x (and_parts (is_strict registry schema x) true below).0 e is
-  placed_strict op us strict below (Some e) is = cc
-
-  mutual
-    pub inlined_strict : (tree : Expression) → IsStrict registry schema tree → IsStrict registry schema (inlined tree)
-    inlined_strict (node op ts) strict =
-        let parts = and_parts (is_strict_over registry schema op (typing_all registry schema ts)) (are_strict registry schema ts) strict in
-        let s = strict_parts registry schema op ts parts.0 in
-        let below = all_inlined_strict ts parts.1 in
-        let same = typings_same registry schema ts (all_inlined ts) (all_inlined_same ts) in
-        let over = ap (is_strict_over registry schema op) same ∙ parts.0 in
-        placed_strict op (all_inlined ts) (and_from (is_strict_over registry schema op (typing_all registry schema (all_inlined ts))) (are_strict registry schema (all_inlined ts)) over below) below (in_place_of op (all_inlined ts)) refl
-
-    pub all_inlined_strict : (trees : Trees Op) → AllStrict registry schema trees → AllStrict registry schema (all_inlined trees)
-    all_inlined_strict no_more strict = refl
-    all_inlined_strict (more tree trees) strict =
-        let parts = and_parts (is_strict registry schema tree) (are_strict registry schema trees) strict in
-        and_from (is_strict registry schema (inlined tree)) (are_strict registry schema (all_inlined trees)) (inlined_strict tree parts.0) (all_inlined_strict trees parts.1)
 
 -- ---- casts that go leave no alias behind
 

@@ -7,6 +7,7 @@ pub mod CountLemmas
 pub mod ExampleLemmas
 pub mod FrameLemmas
 pub mod InliningLemmas
+pub mod KindLemmas
 pub mod LoopLemmas
 pub mod ManyRootLemmas
 pub mod NameLemmas
@@ -25,5 +26,3 @@ pub mod TurnLemmas
 pub mod TypedNodeLemmas
 pub mod TypedRootLemmas
 pub mod UncheckedLemmas
-pub mod UntoldLemmas
-pub mod WrittenOutLemmas

@@ -21,7 +21,7 @@ use Rattle.plan_dsl.proofs.TypingLemmas.{by_children, by_no_children, typed_part
 use Rattle.plan_arena.specs.Runs.{AllNameOperands, NamesOperands, NamesOver}
 use Rattle.plan_coerce.specs.Coercion.{coerced, coerced_all, fitted, fitted_by}
 use Rattle.plan_coerce.specs.InlinedCasts.{all_inlined, cast_of, in_place_of, inlined, is_logical, written_out}
-use Rattle.plan_coerce.proofs.InliningLemmas.{gives_literal, some_where}
+use Rattle.plan_coerce.proofs.InliningLemmas.{gives_literal, inlined_same, some_where}
 
 -- ---- casts that are written out
 
@@ -84,6 +84,11 @@ module _ (registry : Registry) (schema : Columns) where
     all_coerced_same no_more typed h = tt
     all_coerced_same (more tree trees) typed h =
         by_children (λ _. AllRelated (IsSame registry schema) (more tree trees) (coerced_all registry schema (more tree trees))) _ _ typed h (λ t ts first rest. (coerced_same tree t first, all_coerced_same trees ts rest))
+
+  -- what is written out says the same, on any rows
+  pub written_same : (tree : Expression) (typed : Typed) → typing registry schema tree ≡ Ok typed → IsSame registry schema tree (written_out registry schema tree)
+  written_same tree typed h =
+      same_then registry schema tree (coerced registry schema tree) (written_out registry schema tree) (coerced_same tree typed h) (inlined_same registry schema (coerced registry schema tree))
 
   mutual
     coerced_names : (tree : Expression) (typed : Typed) → typing registry schema tree ≡ Ok typed → NamesOperands tree → NamesOperands (coerced registry schema tree)

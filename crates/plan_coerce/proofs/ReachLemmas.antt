@@ -3,9 +3,9 @@ use Rattle.std.proofs.Common.{◌≡◌, ◌≢◌, ℕ, zero, suc, ◌<◌, ◌
 use Rattle.std.specs.List.{AllByRecursion}
 use Rattle.std.proofs.lemmas.Option.{slice_get_within, slice_get-get_or}
 use Rattle.std.proofs.lemmas.Bool.{cases_lt}
-use Rattle.std.proofs.lemmas.List.{length-map, map-append, map-set}
+use Rattle.std.proofs.lemmas.List.{length-map, map-set}
 use Rattle.std.proofs.Math.ListN.{length-set}
-use Rattle.plan_types.proofs.ListLemmas.{slice_get-append, slice_get-set_other}
+use Rattle.plan_types.proofs.ListLemmas.{slice_get-set_other}
 use Rattle.plan_types.specs.Types.{Ty, same_type}
 use Rattle.plan_dsl.specs.Ops.{Op, Expression}
 use Rattle.plan_dsl.specs.Trees.{Trees, node, no_more, more}
@@ -20,7 +20,7 @@ use Rattle.plan_infer.specs.declared.type_table.TypeTable.{TypeTable}
 use Rattle.plan_infer.proofs.TableLemmas.{layer_held}
 use Rattle.plan_coerce.specs.Coercion.{Operand, IsChanged, AreChanged}
 use Rattle.plan_coerce.specs.Reaching.{Among, IsReached, Near, IsClosed, ReachedBy}
-use Rattle.plan_coerce.proofs.RightLemmas.{node_within}
+use Rattle.plan_coerce.proofs.RightLemmas.{held_before, node_within}
 
 pub all_among : (P : ℕ → Type 0) (ns : List ℕ) → ((n : ℕ) → Among ns n → P n) → AllByRecursion P ns
 all_among P [] h = tt
@@ -37,14 +37,7 @@ closed_start items roots n op inputs near held =
     (λ r. all_among (Near items roots) inputs (λ m a. inr (record { steps = suc r.steps; path = (n, op, inputs, r.path, held, a) })))
     near
 
--- an item of a list was there before others were added, and before another was written
-held_before : (old : List AExpr) (item : AExpr) (n : ℕ) (op : Op) (inputs : List ℕ) → n < length old → HoldsExpression (old ++ item ∷ []) n op inputs → HoldsExpression old n op inputs
-held_before old item n op inputs lt h =
-    let layers = map expression_layer old in
-    let got = slice_get-get_or layers n (layer op inputs) (omega (arith, lt, length-map old expression_layer)) in
-    let there = ap (λ l. slice_get l n) (map-append expression_layer old (item ∷ [])) ∙ slice_get-append layers (map expression_layer (item ∷ [])) n _ got in
-    got ∙ ap Some (some_same (slice_get (map expression_layer (old ++ item ∷ [])) n) _ _ there h)
-
+-- an item of a list was there before another was written
 pub held_unwritten : (old : List AExpr) (at : ℕ) (item : AExpr) (n : ℕ) (op : Op) (inputs : List ℕ) → n ≢ at → HoldsExpression (set old at item) n op inputs → HoldsExpression old n op inputs
 held_unwritten old at item n op inputs other h =
     let layers = map expression_layer old in

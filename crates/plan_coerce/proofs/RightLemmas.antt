@@ -1,14 +1,19 @@
 -- What is kept by node stays right as coercion adds nodes and writes one.
-use Rattle.std.proofs.Common.{reverse, ◌≡◌, ◌≢◌, ◌⊎◌, ℕ, ◌<◌, List, [], ◌∷◌, ◌++◌, length, map, set, true, false, cond, Some, Ok, Err, slice_get, refl, sym, ap, ◌∙◌, subst, arith, zero-le, inl, inr, ⊎_elim, length-append}
+use Rattle.std.proofs.Common.{reverse, ◌≡◌, ◌≢◌, ◌⊎◌, ℕ, ℤ, ◌<◌, List, [], ◌∷◌, ◌++◌, length, map, set, true, false, cond, Some, Ok, Err, slice_get, refl, sym, ap, ◌∙◌, subst, arith, zero-le, inl, inr, ⊎_elim, length-append}
 use Rattle.std.specs.List.{AllByRecursion}
-use Rattle.std.proofs.lemmas.List.{length-map}
-use Rattle.std.proofs.lemmas.Bool.{cases_lt}
-use Rattle.plan_types.specs.Types.{Ty, ty, is_known}
+use Rattle.std.proofs.lemmas.List.{length-map, map-append}
+use Rattle.std.proofs.lemmas.Option.{slice_get-get_or}
+use Rattle.plan_types.proofs.ListLemmas.{slice_get-append}
+use Rattle.std.proofs.lemmas.Bool.{and_from, cases_lt, false≢true}
+use Rattle.plan_types.specs.Types.{Ty, Untyped, ty, is_known, same_type}
+use Rattle.plan_types.specs.TypeLaws.{same_type_exact}
+use Rattle.plan_types.specs.CommonTypes.{type_alone}
 use Rattle.plan_types.specs.Casts.{can_cast}
-use Rattle.plan_types.proofs.CommonLemmas.{alone_itself}
+use Rattle.plan_types.proofs.CommonLemmas.{alone_itself, literal_has}
 use Rattle.plan_types.specs.declared.error.ErrorKind.TheVariants.{InvalidOperation}
 use Rattle.plan_types.specs.Schemas.{Name, Columns}
 use Rattle.plan_types.specs.declared.dtype.DataType.{DataType}
+use Rattle.plan_types.specs.declared.dtype.CastOptions.{CastOptions}
 use Rattle.plan_types.specs.declared.dtype.CastOptions.TheVariants.{NonStrict}
 use Rattle.plan_dsl.specs.declared.literal.LiteralValue.{LiteralValue}
 use Rattle.plan_dsl.specs.Registry.{Registry}
@@ -16,7 +21,7 @@ use Rattle.plan_dsl.specs.Names.{Label, label_of}
 use Rattle.plan_dsl.specs.Trees.{node, no_more, more}
 use Rattle.plan_dsl.specs.Ops.{Op, CastOp, AliasOp, Expression}
 use Rattle.plan_dsl.specs.Literals.{literal_op, literal_type, literal_value, is_literal}
-use Rattle.plan_dsl.specs.Strictness.{as_operand}
+use Rattle.plan_dsl.specs.Strictness.{as_operand, integer_has}
 use Rattle.plan_dsl.specs.Typing.{Ruling, Typed, aliased, literal_taken, rule, typed_to, types_of, typing}
 use Rattle.plan_dsl.proofs.TypingLemmas.{ok_same}
 use Rattle.plan_dsl.proofs.CastLemmas.{operand_made}
@@ -29,7 +34,7 @@ use Rattle.plan_arena.specs.declared.aexpr.AExpr.TheVariants.{Literal, Cast, Ali
 use Rattle.plan_arena.specs.Denotation.{Denotes, DenotesTree}
 use Rattle.plan_arena.specs.Layers.{layer, shape_of, inputs_of, op_of}
 use Rattle.plan_arena.specs.Items.{AreNamesOver, HoldsExpression, HoldsFrom, Grows, Rewired, expression_layer}
-use Rattle.plan_arena.proofs.DenotationLemmas.{same_or_other}
+use Rattle.plan_arena.proofs.DenotationLemmas.{same_or_other, some_same}
 use Rattle.plan_arena.proofs.ItemLemmas.{expression_laws, any_node, from_zero, expression_elsewhere, expression_written, expression_added, tree_grown, grown_held, tree_within}
 use Rattle.plan_infer.specs.declared.type_table.Inferred.{Inferred}
 use Rattle.plan_infer.specs.declared.type_table.TypeTable.{TypeTable}
@@ -217,22 +222,52 @@ literal_kept registry schema items table n value k d literal right =
 
 -- ---- nodes that take their operands as they are
 
--- a node that was added so, behind others
-pub strict_added : (registry : Registry) (schema : Columns) (start : ℕ) (old new : List AExpr) (item : AExpr) (table table' : TypeTable) (n : ℕ) (own : Inferred) → IsRight registry schema old table → new ≡ old ++ item ∷ [] → n ≡ length old → own.operands ≡ [] → is_known (ty own.dtype) ≡ true → IsKept table' n → ((n : ℕ) (other : Inferred) → KeepsEntry table n other → KeepsEntry table' n other) → ((m : ℕ) (other : Inferred) → KeepsEntry table' m other → KeepsEntry table m other ⊎ ((m ≡ n) × (other ≡ own))) → AllStrictFrom start old table → AllStrictFrom start new table'
-strict_added registry schema start old new item table table' n own right grown at none known kept stays only before m from within =
+-- an item of a list was there before another was added
+pub held_before : (old : List AExpr) (item : AExpr) (n : ℕ) (op : Op) (inputs : List ℕ) → n < length old → HoldsExpression (old ++ item ∷ []) n op inputs → HoldsExpression old n op inputs
+held_before old item n op inputs lt h =
+    let layers = map expression_layer old in
+    let got = slice_get-get_or layers n (layer op inputs) (omega (arith, lt, length-map old expression_layer)) in
+    let there = ap (λ l. slice_get l n) (map-append expression_layer old (item ∷ [])) ∙ slice_get-append layers (map expression_layer (item ∷ [])) n _ got in
+    got ∙ ap Some (some_same (slice_get (map expression_layer (old ++ item ∷ [])) n) _ _ there h)
+
+-- a node that was added so, behind others: where it is a cast, it changes the type
+pub strict_added : (registry : Registry) (schema : Columns) (start : ℕ) (old new : List AExpr) (item : AExpr) (table table' : TypeTable) (n : ℕ) (own : Inferred) → IsRight registry schema old table → new ≡ old ++ item ∷ [] → n ≡ length old → own.operands ≡ [] → is_known (ty own.dtype) ≡ true → ((target : Ty) (options : CastOptions) (k : ℕ) → expression_layer item ≡ layer (CastOp target options) (k ∷ []) → (from : Inferred) × KeepsEntry table k from × (same_type (ty from.dtype) target ≡ false)) → IsKept table' n → ((n : ℕ) (other : Inferred) → KeepsEntry table n other → KeepsEntry table' n other) → ((m : ℕ) (other : Inferred) → KeepsEntry table' m other → KeepsEntry table m other ⊎ ((m ≡ n) × (other ≡ own))) → AllStrictFrom start old table → AllStrictFrom start new table'
+strict_added registry schema start old new item table table' n own right grown at none known changes kept stays only before m from within =
     let is : HasRightTypes old table = record { registry = registry; schema = schema; right = right } in
     let count = ap length grown ∙ length-append old (item ∷ []) in
+    let still : (k : ℕ) (target : Ty) → ((entry : Inferred) × KeepsEntry table k entry × (same_type (ty entry.dtype) target ≡ false)) → (entry : Inferred) × KeepsEntry table' k entry × (same_type (ty entry.dtype) target ≡ false) = λ k target e. (e.0, stays k e.0 e.1, e.2) in
     ⊎_elim
-    (λ lt. let k = before m from lt in record { own = k.own; keeps = stays m k.own k.keeps; none = k.none; known = k.known })
+    (λ lt.
+    let k = before m from lt in
+    (record { own = k.0.own; keeps = stays m k.0.own k.0.keeps; none = k.0.none; known = k.0.known }, λ target options i held. still i target (k.1 target options i (held_before old item m (CastOp target options) (i ∷ []) lt (subst (λ l. HoldsExpression l m (CastOp target options) (i ∷ [])) grown held)))))
     (λ le.
     let here : m ≡ n = omega (arith, le, within, at, count) in
     ⊎_elim
     (λ k. absurd (omega (arith, at, kept_within old table n is (record { own = kept.own; keeps = k }))))
-    (λ e. record {
-      own = kept.own;
-      keeps = subst (λ k. KeepsEntry table' k kept.own) (sym here) kept.keeps;
-      none = ap (λ (x : Inferred). x.operands) e.1 ∙ none;
-      known = ap (λ (x : Inferred). is_known (ty x.dtype)) e.1 ∙ known;
-    })
+    (λ e. (
+      record {
+        own = kept.own;
+        keeps = subst (λ k. KeepsEntry table' k kept.own) (sym here) kept.keeps;
+        none = ap (λ (x : Inferred). x.operands) e.1 ∙ none;
+        known = ap (λ (x : Inferred). is_known (ty x.dtype)) e.1 ∙ known;
+      },
+      λ target options i held. still i target (changes target options i (some_same (slice_get (map expression_layer (old ++ item ∷ [])) (length old)) (expression_layer item) (layer (CastOp target options) (i ∷ [])) (expression_added old item) (subst (λ j. HoldsExpression (old ++ item ∷ []) j (CastOp target options) (i ∷ [])) (here ∙ at) (subst (λ l. HoldsExpression l m (CastOp target options) (i ∷ [])) grown held)))),
+    ))
     (only n kept.own kept.keeps))
     (cases_lt m (length old))
+
+-- a cast of a node of another type does so
+pub cast_changes : (table : TypeTable) (n : ℕ) (target : Ty) (own : CastOptions) (from : Inferred) → KeepsEntry table n from → same_type (ty from.dtype) target ≡ false → (to : Ty) (options : CastOptions) (k : ℕ) → layer (CastOp target own) (n ∷ []) ≡ layer (CastOp to options) (k ∷ []) → (entry : Inferred) × KeepsEntry table k entry × (same_type (ty entry.dtype) to ≡ false)
+cast_changes table n target own from keeps apart to options k is =
+    let type : target ≡ to = cc in
+    let input : n ≡ k = cc in
+    (from, subst (λ j. KeepsEntry table j from) input keeps, subst (λ t. same_type (ty from.dtype) t ≡ false) type apart)
+
+-- a type that lacks a number is another than the one that the number has alone
+pub lacks_apart : (number : ℤ) (own target : Ty) → type_alone (Untyped number) ≡ Some own → integer_has target number ≡ false → same_type own target ≡ false
+lacks_apart number own target alone lacks =
+    let has = literal_has number own alone in
+    elim (same_type own target) as (λ b. same_type own target ≡ b → b ≡ false) [
+      | true ↦ λ e. absurd (false≢true (sym lacks ∙ ap (λ t. integer_has t number) (sym (same_type_exact own target e)) ∙ and_from _ _ has.2 has.0))
+      | false ↦ λ e. refl
+    ] refl

@@ -28,7 +28,9 @@ use Rattle.plan_dsl.proofs.LiteralLemmas.{bare, becomes_literal, child_is, liter
 use Rattle.plan_dsl.proofs.OpLemmas.{keeps_rule}
 use Rattle.plan_dsl.proofs.SignatureLemmas.{AllBecome, takes_known}
 use Rattle.plan_dsl.proofs.StrictLemmas.{same_types_exact}
-use Rattle.plan_coerce.specs.Rules.{AllKnown, SettlesNoNumber, is_strict_node, said}
+use Rattle.plan_coerce.specs.Coercion.{coerced}
+use Rattle.plan_coerce.specs.InlinedCasts.{stays}
+use Rattle.plan_coerce.specs.Rules.{AllKnown, SettlesNoNumber, is_settled, is_strict_node, said}
 
 -- a number can become of the type that it has alone, which has it
 pub number_becomes : (number : ℤ) (own : Ty) → type_alone (Untyped number) ≡ Some own → CanBecome (Untyped number) own
@@ -148,3 +150,7 @@ settles_no_number registry schema op children h =
       | Err kind ↦ λ is strict. absurd (false≢true strict)
       | Ok typed ↦ λ is strict. all_known registry schema children typed is (ruled_known registry schema op typed (rule registry schema op typed) refl strict)
     ] refl h
+
+pub settled_no_number : (registry : Registry) (schema : Columns) → SettlesNoNumber (is_settled registry schema) registry schema
+settled_no_number registry schema op children h =
+    settles_no_number registry schema op children (and_parts (said (is_strict_node registry schema) registry schema (node op children)) (stays (coerced registry schema (node op children))) h).0

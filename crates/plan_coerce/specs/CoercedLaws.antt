@@ -1,36 +1,122 @@
--- What is the same of children with every cast written out is the same of the node.
-use Rattle.std.specs.Prelude.{◌≡◌, ◌≤◌, ℕ, Bool, true, false, cond, Some}
-use Rattle.std.proofs.Common.{refl, ap, ◌∙◌, arith}
+-- Laws of the rule of coercion: what is the same of children that are written out is the same of the node.
+use Rattle.std.specs.Prelude.{◌≡◌, ◌≤◌, ◌&&◌, ℕ, Bool, true, false, cond, not, is_some, unwrap_or, List, [], ◌∷◌, Some, None, Result, Ok, Err}
+use Rattle.std.proofs.Common.{refl, sym, ap, ◌∙◌, arith}
+use Rattle.plan_types.specs.Casts.{Converted, Gives, Fails, can_cast}
 use Rattle.plan_types.specs.Schemas.{Columns}
+use Rattle.plan_types.specs.Types.{Ty, Truth, Untyped, same_type}
+use Rattle.plan_types.specs.Values.{Val, NullValue}
+use Rattle.plan_types.specs.declared.dtype.CastOptions.{CastOptions}
+use Rattle.plan_types.specs.declared.dtype.CastOptions.TheVariants.{NonStrict}
+use Rattle.plan_types.specs.declared.error.ErrorKind.{ErrorKind}
+use Rattle.plan_dsl.specs.Aliases.{renamed}
+use Rattle.plan_dsl.specs.Literals.{is_literal}
 use Rattle.plan_dsl.specs.Registry.{Registry}
-use Rattle.plan_dsl.specs.Ops.{Op, Expression}
+use Rattle.plan_dsl.specs.Ops.{Op, AliasOp, BinaryOp, CastOp, LiteralOp, Expression}
+use Rattle.plan_dsl.specs.Strictness.{as_operand, as_operands, changed, is_strict_over, number_as}
 use Rattle.plan_dsl.specs.Trees.{Trees, node, no_more, more, AllRelated}
-use Rattle.plan_dsl.specs.Typing.{typing_all}
-use Rattle.plan_coerce.specs.Coercion.{coerced, coerced_all, fitted}
-use Rattle.plan_coerce.specs.Rules.{HasSameCasts, IsCongruent, IsLike, IsTransitive, is_strict_node, said, seen, until_strict}
+use Rattle.plan_dsl.specs.Typing.{Ruling, Typed, rule, types_of, typing_all}
+use Rattle.plan_coerce.specs.Coercion.{coerced, coerced_all, fitted, fitted_by}
+use Rattle.plan_coerce.specs.InlinedCasts.{all_inlined, cast_of, converted, in_place_of, inlined, is_logical, is_operator, literal_given, literal_with, stays, until_gone, written_out}
+use Rattle.plan_coerce.specs.Rules.{HasSameWritten, IsCongruent, IsLike, IsSteady, IsTransitive, is_settled, is_strict_node, said, until_settled}
 use Rattle.plan_coerce.specs.RuleLaws.{like_typings}
 
+-- ---- what stands for a cast has no alias
+
+with_bare : (target : Ty) (value : Val) (other w : Expression) → renamed other w ≡ w → renamed (unwrap_or (literal_with target value) other) w ≡ w
+with_bare target NullValue other w h = h
+with_bare target value other w h =
+    elim (is_literal target value) as (λ b. renamed (unwrap_or (cond b (Some (node (LiteralOp target value) no_more)) None) other) w ≡ w) [ true ↦ refl | false ↦ h ]
+
+given_bare : (target : Ty) (found : Converted) (other w : Expression) → renamed other w ≡ w → renamed (unwrap_or (literal_given target found) other) w ≡ w
+given_bare target Fails other w h = h
+given_bare target (Gives value) other w h = with_bare target value other w h
+
+cast_bare : (target : Ty) (options : CastOptions) (x w : Expression) → renamed (unwrap_or (cast_of target options x) (node (CastOp target options) (more x no_more))) w ≡ w
+cast_bare target options (node (LiteralOp from value) no_more) w =
+    let other = node (CastOp target options) (more (node (LiteralOp from value) no_more) no_more) in
+    elim (is_literal from value && can_cast from target) as (λ b. renamed (unwrap_or (cond b (literal_given target (converted from value target options)) None) other) w ≡ w) [ true ↦ given_bare target (converted from value target options) other w refl | false ↦ refl ]
+cast_bare target options (node (BinaryOp operator) operands) w =
+    elim (is_logical operator && same_type Truth target) as (λ b. renamed (unwrap_or (cond b (Some (node (BinaryOp operator) operands)) None) (node (CastOp target options) (more (node (BinaryOp operator) operands) no_more))) w ≡ w) [ true ↦ refl | false ↦ refl ]
+cast_bare target options (node op operands) w = refl
+
+-- so aliases stay where casts go
+pub inlined_renamed : (tree other : Expression) → inlined (renamed tree other) ≡ renamed (inlined tree) (inlined other)
+inlined_renamed (node (AliasOp name) (more tree no_more)) other = ap (λ t. node (AliasOp name) (more t no_more)) (inlined_renamed tree other)
+inlined_renamed (node (CastOp target options) (more x no_more)) other = sym (cast_bare target options (inlined x) (inlined other))
+inlined_renamed (node op children) other = refl
+
+-- ---- operands that are made of their types
+
+changed_inlined : (from target : Ty) (x y : Expression) → inlined x ≡ inlined y → inlined (changed from target x) ≡ inlined (changed from target y)
+changed_inlined (Untyped number) target x y h =
+    let made = number_as number target in
+    inlined_renamed x made ∙ ap (λ z. renamed z (inlined made)) h ∙ sym (inlined_renamed y made)
+changed_inlined from target x y h = ap (λ z. unwrap_or (cast_of target NonStrict z) (node (CastOp target NonStrict) (more z no_more))) h
+
+operand_inlined : (from target : Ty) (x y : Expression) → inlined x ≡ inlined y → inlined (as_operand from target x) ≡ inlined (as_operand from target y)
+operand_inlined from target x y h =
+    elim (same_type from target) as (λ b. inlined (cond b x (changed from target x)) ≡ inlined (cond b y (changed from target y))) [ true ↦ h | false ↦ changed_inlined from target x y h ]
+
+operands_inlined : (types targets : List Ty) (xs ys : Trees Op) → all_inlined xs ≡ all_inlined ys → all_inlined (as_operands types targets xs) ≡ all_inlined (as_operands types targets ys)
+operands_inlined [] targets xs ys h = refl
+operands_inlined (from ∷ types) [] xs ys h = refl
+operands_inlined (from ∷ types) (target ∷ targets) no_more no_more h = refl
+operands_inlined (from ∷ types) (target ∷ targets) no_more (more y ys) h = cc
+operands_inlined (from ∷ types) (target ∷ targets) (more x xs) no_more h = cc
+operands_inlined (from ∷ types) (target ∷ targets) (more x xs) (more y ys) h =
+    let first : inlined x ≡ inlined y = cc in
+    let rest : all_inlined xs ≡ all_inlined ys = cc in
+    ap (λ z. more z (all_inlined (as_operands types targets xs))) (operand_inlined from target x y first)
+    ∙ ap (more (inlined (as_operand from target y))) (operands_inlined types targets xs ys rest)
+
+fitted_by_inlined : (found : Result Ruling ErrorKind) (types : List Ty) (xs ys : Trees Op) → all_inlined xs ≡ all_inlined ys → all_inlined (fitted_by found types xs) ≡ all_inlined (fitted_by found types ys)
+fitted_by_inlined (Err kind) types xs ys h = h
+fitted_by_inlined (Ok ruling) types xs ys h = operands_inlined types ruling.operands xs ys h
+
 module _ (registry : Registry) (schema : Columns) where
-  like_casts : (ts us : Trees Op) → AllRelated (IsLike (HasSameCasts registry schema) registry schema) ts us → coerced_all registry schema us ≡ coerced_all registry schema ts
-  like_casts no_more no_more h = refl
-  like_casts (more t ts) (more u us) h =
-      ap (λ x. more x (coerced_all registry schema us)) h.0.relates ∙ ap (more (coerced registry schema t)) (like_casts ts us h.1)
-  like_casts no_more (more u us) h = absurd h
-  like_casts (more t ts) no_more h = absurd h
+  fitted_inlined : (op : Op) (found : Result (List Typed) ErrorKind) (xs ys : Trees Op) → all_inlined xs ≡ all_inlined ys → all_inlined (fitted registry schema op found xs) ≡ all_inlined (fitted registry schema op found ys)
+  fitted_inlined op (Err kind) xs ys h = h
+  fitted_inlined op (Ok typed) xs ys h = fitted_by_inlined (rule registry schema op typed) (types_of typed) xs ys h
 
-pub same_casts_congruent : (registry : Registry) (schema : Columns) → IsCongruent (HasSameCasts registry schema) registry schema
-same_casts_congruent registry schema op ts us h =
-    ap (λ r. node op (fitted registry schema op r (coerced_all registry schema us))) (like_typings (HasSameCasts registry schema) registry schema ts us h)
-    ∙ ap (λ l. node op (fitted registry schema op (typing_all registry schema ts) l)) (like_casts registry schema ts us h)
+  -- ---- children that are one once they are written out
 
-pub same_casts_transitive : (registry : Registry) (schema : Columns) → IsTransitive (HasSameCasts registry schema)
-same_casts_transitive registry schema t u w a b = b ∙ a
+  like_written : (ts us : Trees Op) → AllRelated (IsLike (HasSameWritten registry schema) registry schema) ts us → all_inlined (coerced_all registry schema us) ≡ all_inlined (coerced_all registry schema ts)
+  like_written no_more no_more h = refl
+  like_written (more t ts) (more u us) h =
+      ap (λ x. more x (all_inlined (coerced_all registry schema us))) h.0.relates ∙ ap (more (written_out registry schema t)) (like_written ts us h.1)
+  like_written no_more (more u us) h = absurd h
+  like_written (more t ts) no_more h = absurd h
 
--- a node is replaced once at most until it is strict
-one_or_none : (strict : Bool) (n : ℕ) → Some 8 ≡ Some n → cond strict 0 1 ≤ n
-one_or_none strict n is =
+  same_over : (op : Op) (ts us : Trees Op) → AllRelated (IsLike (HasSameWritten registry schema) registry schema) ts us → all_inlined (fitted registry schema op (typing_all registry schema us) (coerced_all registry schema us)) ≡ all_inlined (fitted registry schema op (typing_all registry schema ts) (coerced_all registry schema ts))
+  same_over op ts us h =
+      ap (λ r. all_inlined (fitted registry schema op r (coerced_all registry schema us))) (like_typings (HasSameWritten registry schema) registry schema ts us h)
+      ∙ fitted_inlined op (typing_all registry schema ts) (coerced_all registry schema us) (coerced_all registry schema ts) (like_written ts us h)
+
+pub same_written_congruent : (registry : Registry) (schema : Columns) → IsCongruent (HasSameWritten registry schema) registry schema
+same_written_congruent registry schema op ts us h = ap (λ l. unwrap_or (in_place_of op l) (node op l)) (same_over registry schema op ts us h)
+
+pub same_written_transitive : (registry : Registry) (schema : Columns) → IsTransitive (HasSameWritten registry schema)
+same_written_transitive registry schema t u w a b = b ∙ a
+
+pub settled_steady : (registry : Registry) (schema : Columns) → IsSteady (is_settled registry schema) (HasSameWritten registry schema) registry schema
+settled_steady registry schema op ts us h =
+    ap (λ r. is_strict_over registry schema op r && stays (coerced registry schema (node op us))) (like_typings (HasSameWritten registry schema) registry schema ts us h)
+    ∙ ap (λ l. is_strict_over registry schema op (typing_all registry schema ts) && not (is_some (in_place_of op l))) (same_over registry schema op ts us h)
+
+-- a node is replaced five times at most until it is settled
+gone_soon : (tree : Expression) → until_gone tree ≤ 3
+gone_soon tree =
+    elim (stays tree) as (λ b. cond b 0 (cond (is_operator (inlined tree)) 3 1) ≤ 3) [
+      | true ↦ omega arith
+      | false ↦ elim (is_operator (inlined tree)) as (λ b. cond b 3 1 ≤ 3) [ true ↦ omega arith | false ↦ omega arith ]
+    ]
+
+strict_soon : (strict : Bool) → cond strict 0 2 ≤ 2
+strict_soon strict = elim strict as (λ b. cond b 0 2 ≤ 2) [ true ↦ omega arith | false ↦ omega arith ]
+
+pub until_settled_bounded : (registry : Registry) (schema : Columns) (t : Expression) (n : ℕ) → Some 8 ≡ Some n → until_settled registry schema t ≤ n
+until_settled_bounded registry schema t n is =
     let eight : 8 ≡ n = cc in
-    elim strict as (λ b. cond b 0 1 ≤ n) [ true ↦ omega (arith, eight) | false ↦ omega (arith, eight) ]
-
-pub until_strict_bounded : (registry : Registry) (schema : Columns) (t : Expression) (n : ℕ) → Some 8 ≡ Some n → said (until_strict registry schema) registry schema t ≤ n
-until_strict_bounded registry schema (node op children) n is = one_or_none (is_strict_node registry schema op (seen registry schema children)) n is
+    let gone = gone_soon (coerced registry schema t) in
+    let strict = strict_soon (said (is_strict_node registry schema) registry schema t) in
+    omega (arith, eight, gone, strict)

@@ -5,10 +5,11 @@ use Rattle.plan_dsl.specs.Typing.{Typed, Ruling, rule, types_of, typing_all}
 use Rattle.std.specs.List.{AllByRecursion}
 use Rattle.plan_types.specs.Types.{Ty, Untyped, ty, is_known, same_type}
 use Rattle.plan_types.specs.Schemas.{Columns}
+use Rattle.plan_types.specs.declared.dtype.CastOptions.{CastOptions}
 use Rattle.plan_types.specs.declared.dtype.DataType.{DataType}
 use Rattle.plan_dsl.specs.Registry.{Registry}
 use Rattle.plan_dsl.specs.Trees.{Trees, node, no_more, more}
-use Rattle.plan_dsl.specs.Ops.{Op, Expression}
+use Rattle.plan_dsl.specs.Ops.{Op, CastOp, Expression}
 use Rattle.plan_dsl.specs.Strictness.{CanBecome, as_operand, as_operands}
 use Rattle.plan_arena.specs.declared.aexpr.AExpr.{AExpr}
 use Rattle.plan_arena.specs.Denotation.{Denotes}
@@ -89,9 +90,14 @@ pub record KeepsStrict (table : TypeTable) (n : ℕ) : Type 0 where
   pub none : own.operands ≡ []
   pub known : is_known (ty own.dtype) ≡ true
 
--- the table keeps so of each node of an arena from a number on
+-- where the node is a cast, its operand is kept as one of another type
+abbrev pub ChangesType : List AExpr → TypeTable → ℕ → Type 0
+ChangesType items table n =
+    (target : Ty) (options : CastOptions) (k : ℕ) → HoldsExpression items n (CastOp target options) (k ∷ []) → (from : Inferred) × KeepsEntry table k from × (same_type (ty from.dtype) target ≡ false)
+
+-- each node of an arena from a number on is kept as a strict one, and each cast of these changes the type
 abbrev pub AllStrictFrom : ℕ → List AExpr → TypeTable → Type 0
-AllStrictFrom start items table = (n : ℕ) → start ≤ n → n < length items → KeepsStrict table n
+AllStrictFrom start items table = (n : ℕ) → start ≤ n → n < length items → KeepsStrict table n × ChangesType items table n
 
 -- what is kept of a node that has a type of columns, and takes its operands to types that are listed
 pub record TakesOperands (own : Inferred) : Type 0 where

@@ -1,7 +1,7 @@
 -- Expressions without the casts that can be told beforehand.
 -- A cast of a literal is a literal of the type to which it goes, where that type has one and the value isn't null. A cast of
 -- LogicalAnd or LogicalOr to truth values is what stands under it. Casts further in go first. Any other cast stays.
-use Rattle.std.specs.Prelude.{◌≡◌, ◌⊎◌, ℕ, Bool, true, false, ◌&&◌, not, List, [], ◌∷◌, Option, Some, None, unwrap_or, is_some, if◌then◌else◌}
+use Rattle.std.specs.Prelude.{◌≡◌, ◌⊎◌, ℕ, Bool, true, false, ◌&&◌, not, List, [], ◌∷◌, Option, Some, None, Ok, unwrap_or, is_some, if◌then◌else◌}
 use Rattle.plan_types.specs.Types.{Ty, Truth, same_type}
 use Rattle.plan_types.specs.Values.{Val, NullValue}
 use Rattle.plan_types.specs.Schemas.{Columns}
@@ -13,6 +13,7 @@ use Rattle.plan_dsl.specs.Literals.{is_literal, literal_op}
 use Rattle.plan_dsl.specs.Registry.{Registry}
 use Rattle.plan_dsl.specs.Ops.{Op, LiteralOp, BinaryOp, CastOp, Expression}
 use Rattle.plan_dsl.specs.Trees.{Trees, node, no_more, more}
+use Rattle.plan_dsl.specs.Typing.{Typed, typing}
 use Rattle.plan_arena.specs.declared.aexpr.AExpr.{AExpr}
 use Rattle.plan_arena.specs.Denotation.{Denotes}
 use Rattle.plan_arena.specs.Items.{HoldsExpression}
@@ -42,6 +43,11 @@ abbrev pub is_logical : Operator → Bool
 is_logical LogicalAnd = true
 is_logical LogicalOr = true
 is_logical operator = false
+
+-- whether it is of one of these operators
+abbrev pub is_operator : Expression → Bool
+is_operator (node (BinaryOp operator) operands) = is_logical operator
+is_operator (node op operands) = false
 
 -- what stands for a cast of the expression, if not the cast
 abbrev pub cast_of_top : Ty → CastOptions → Op → Trees Op → Option Expression
@@ -82,13 +88,10 @@ is_cast_op op = false
 abbrev pub is_cast : Expression → Bool
 is_cast (node op operands) = is_cast_op op
 
--- how often a node is replaced until it stays
-abbrev pub until_stays : Expression → ℕ
-until_stays tree = if stays tree then 0 else 1
-
--- both are one expression without these casts
-abbrev pub HasSameInlined : Expression → Expression → Type 0
-HasSameInlined before after = inlined after ≡ inlined before
+-- how often a node with every cast written out is replaced until it stays: what stands under a cast of a literal is one
+-- itself, and what stands under a cast of LogicalAnd or LogicalOr has yet to be coerced
+abbrev pub until_gone : Expression → ℕ
+until_gone tree = if stays tree then 0 else if is_operator (inlined tree) then 3 else 1
 
 -- ---- what stands under casts
 
@@ -107,17 +110,28 @@ LeadsTo items n (node op (more tree no_more)) m u =
     ((n ≡ m) × (node op (more tree no_more) ≡ u)) ⊎ ((k : ℕ) × HoldsExpression items n op (k ∷ []) × LeadsTo items k tree m u)
 LeadsTo items n (node op operands) m u = (n ≡ m) × (node op operands ≡ u)
 
--- the node leads to a node of LogicalAnd or LogicalOr, which is what the tree is without these casts
-pub record LeadsToLogical (items : List AExpr) (n : ℕ) (tree : Expression) (m : ℕ) : Type 0 where
+-- the node leads to a node of LogicalAnd or LogicalOr that has a typing, which is what the tree is, written out
+pub record LeadsToLogical (registry : Registry) (schema : Columns) (items : List AExpr) (n : ℕ) (tree : Expression) (m : ℕ) : Type 0 where
   pub operator : Operator
   pub operands : Trees Op
   pub logical : is_logical operator ≡ true
   pub leads : LeadsTo items n tree m (node (BinaryOp operator) operands)
   pub denotes : Denotes (HoldsExpression items) m (node (BinaryOp operator) operands)
-  pub is : inlined tree ≡ inlined (node (BinaryOp operator) operands)
+  pub typed : Typed
+  pub has : typing registry schema (node (BinaryOp operator) operands) ≡ Ok typed
+  pub is : written_out registry schema tree ≡ written_out registry schema (node (BinaryOp operator) operands)
 
 -- what is found at a node that denotes the tree: a literal, or a node of such an operator, or nothing of which a cast can be told
-abbrev pub IsToldBy : List AExpr → ℕ → Expression → Told → Type 0
-IsToldBy items n tree (Literal value) = inlined tree ≡ node (literal_op value) no_more
-IsToldBy items n tree (Logical m) = LeadsToLogical items n tree m.0
-IsToldBy items n tree Neither = is_told (inlined tree) ≡ false
+abbrev pub IsToldBy : Registry → Columns → List AExpr → ℕ → Expression → Told → Type 0
+IsToldBy registry schema items n tree (Literal value) = written_out registry schema tree ≡ node (literal_op value) no_more
+IsToldBy registry schema items n tree (Logical m) = LeadsToLogical registry schema items n tree m.0
+IsToldBy registry schema items n tree Neither = is_told (written_out registry schema tree) ≡ false
+
+-- the node denotes an expression that has a typing over some schema
+pub record IsTypedNode (items : List AExpr) (n : ℕ) : Type 0 where
+  pub registry : Registry
+  pub schema : Columns
+  pub tree : Expression
+  pub denotes : Denotes (HoldsExpression items) n tree
+  pub typed : Typed
+  pub is : typing registry schema tree ≡ Ok typed

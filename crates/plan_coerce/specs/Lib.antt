@@ -2,7 +2,7 @@
 pub mod CoercedLaws
 pub mod Coercion
 pub mod InlinedCasts
-pub mod InliningLaws
+pub mod Kinds
 pub mod Optimizer
 pub mod Reaching
 pub mod RuleLaws

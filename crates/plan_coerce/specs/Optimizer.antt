@@ -22,7 +22,7 @@ use Rattle.plan_coerce.specs.declared.stack_opt.ConversionOptimizer.{ConversionO
 use Rattle.plan_coerce.specs.Coercion.{KeepsBelow}
 use Rattle.plan_coerce.specs.InlinedCasts.{written_out}
 use Rattle.plan_coerce.specs.Reaching.{Among, AreOnce, HaveNodes, IsReached, Near}
-use Rattle.plan_coerce.specs.Rules.{HasSameCasts, IsLike, IsPlanReplacement, IsSettledPlan, SettlesNoNumber, StandsOver}
+use Rattle.plan_coerce.specs.Rules.{IsLike, IsPlanReplacement, IsSettledPlan, SettlesNoNumber, StandsOver}
 
 -- the nodes at which coercion starts, and these with their inputs
 abbrev pub roots_of : ConversionOptimizer → List ℕ
@@ -199,13 +199,6 @@ abbrev pub IsPlanTurn : (Registry → Columns → PlanKind (Named Expression) �
 IsPlanTurn settled replaces registry expressions old new n =
     IsSettledPlan settled registry expressions new n × ((new ≡ old) ⊎ ((replaces ≡ true) × IsPlanReplacement registry expressions old new n))
 
--- What coercion of these roots leaves: items below the number stay, each tree becomes one that says the same, and each
--- root's is strict.
-pub record IsCoerced (registry : Registry) (schema : Columns) (first : ℕ) (old new : List AExpr) (roots : List ℕ) : Type 0 where
-  pub below : KeepsBelow first old new
-  pub trees : StaysLike (HasSameCasts registry schema) registry schema old new
-  pub strict : AllByRecursion (λ n. (t : Expression) × Denotes (HoldsExpression new) n t × IsStrict registry schema t) roots
-
 -- the node denotes the expression with every cast written out, without those that go. It says the same, and is strict
 pub record IsWrittenOut (registry : Registry) (schema : Columns) (items : List AExpr) (n : ℕ) (before : Expression) : Type 0 where
   pub tree : Expression
@@ -214,8 +207,7 @@ pub record IsWrittenOut (registry : Registry) (schema : Columns) (items : List A
   pub strict : IsStrict registry schema tree
   pub is : tree ≡ written_out registry schema before
 
--- What both rules leave of these roots, one behind the other: items below the number stay, and each root denotes what it
--- did, written out.
+-- What coercion leaves of these roots: items below the number stay, and each root denotes what it did, written out.
 pub record AreWrittenOut (registry : Registry) (schema : Columns) (first : ℕ) (old new : List AExpr) (roots : List ℕ) : Type 0 where
   pub below : KeepsBelow first old new
   pub each : AllByRecursion (λ n. (t : Expression) → Denotes (HoldsExpression old) n t → IsWrittenOut registry schema new n t) roots

@@ -2,7 +2,7 @@
 -- What a rule says of a node goes by the expression that it denotes. Where it goes by what the node does and by what is
 -- seen of its inputs alone, their names and typings, it stays so where inputs are put in place by others that are like them.
 -- What is said of a plan's node goes by the node's kind, and by the schema that goes into it.
-use Rattle.std.specs.Prelude.{◌≡◌, ◌<◌, ◌≤◌, ℕ, ℤ, Bool, true, false, List, [], ◌∷◌, length, set, Result, Ok, Err, if◌then◌else◌}
+use Rattle.std.specs.Prelude.{◌≡◌, ◌<◌, ◌≤◌, ◌+◌, ◌&&◌, ℕ, ℤ, Bool, true, false, List, [], ◌∷◌, length, set, Result, Ok, Err, if◌then◌else◌}
 use Rattle.std.specs.List.{AllByRecursion}
 use Rattle.plan_types.specs.Frames.{IsFrame, Row}
 use Rattle.plan_types.specs.Types.{Untyped, is_known, is_truth}
@@ -28,6 +28,7 @@ use Rattle.plan_infer.specs.declared.type_table.Inferred.{Inferred}
 use Rattle.plan_infer.specs.declared.type_table.TypeTable.{TypeTable}
 use Rattle.plan_infer.specs.KeptTypes.{IsRight, KeepsEntry, typed_of}
 use Rattle.plan_coerce.specs.Coercion.{coerced}
+use Rattle.plan_coerce.specs.InlinedCasts.{stays, until_gone, written_out}
 use Rattle.plan_coerce.specs.Reaching.{IsClosed, IsReached, StaysOnce}
 use Rattle.plan_coerce.specs.Unchecked.{GoesInto, HasUncheckedSchema}
 
@@ -102,20 +103,27 @@ pub record KeepsNumber (table : TypeTable) (n : ℕ) : Type 0 where
 
 -- ---- the rule of coercion
 
--- whether a node is strict, and how often it is replaced until it is
+-- whether a node is strict
 abbrev pub is_strict_node : Registry → Columns → Op → Inputs → Bool
 is_strict_node registry schema op inputs = is_strict_over registry schema op inputs.typings
 
-abbrev pub until_strict : Registry → Columns → Op → Inputs → ℕ
-until_strict registry schema op inputs = if is_strict_node registry schema op inputs then 0 else 1
+-- whether it is settled: it is strict, and no cast that can be told beforehand once what stands under it is written out
+abbrev pub is_settled : Registry → Columns → Expression → Bool
+is_settled registry schema tree = said (is_strict_node registry schema) registry schema tree && stays (coerced registry schema tree)
 
--- both are one expression with every cast written out
-abbrev pub HasSameCasts : Registry → Columns → Expression → Expression → Type 0
-HasSameCasts registry schema before after = coerced registry schema after ≡ coerced registry schema before
+-- How often it is replaced until it is. What isn't strict becomes so, and may be a cast of a literal then; a cast of
+-- LogicalAnd or LogicalOr makes way for what may not be strict.
+abbrev pub until_settled : Registry → Columns → Expression → ℕ
+until_settled registry schema tree =
+    until_gone (coerced registry schema tree) + (if said (is_strict_node registry schema) registry schema tree then 0 else 2)
+
+-- both are one expression once they are written out
+abbrev pub HasSameWritten : Registry → Columns → Expression → Expression → Type 0
+HasSameWritten registry schema before after = written_out registry schema after ≡ written_out registry schema before
 
 -- an item can be put in place of the one at a node, in the arena as it has grown
 pub record CanReplace (old new : List AExpr) (table table' : TypeTable) (at : ℕ) (item : AExpr) : Type 0 where
-  pub answer : (registry : Registry) (schema : Columns) (t : Expression) → IsRight registry schema old table → Denotes (HoldsExpression old) at t → IsReplacement (HasSameCasts registry schema) (said (until_strict registry schema) registry schema) registry schema old (set new at item) at t
+  pub answer : (registry : Registry) (schema : Columns) (t : Expression) → IsRight registry schema old table → Denotes (HoldsExpression old) at t → IsReplacement (HasSameWritten registry schema) (until_settled registry schema) registry schema old (set new at item) at t
   pub reaches : IsClosed old (at ∷ []) (set new at item)
   pub once : StaysOnce old (set new at item) at
   pub placed : (registry : Registry) (schema : Columns) → IsRight registry schema old table → IsRight registry schema (set new at item) table'

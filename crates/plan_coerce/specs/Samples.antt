@@ -1,11 +1,11 @@
 -- What the worked examples share: the sum with a cast and what an arena holds of it.
-use Rattle.std.specs.Prelude.{◌≡◌, ℕ, List, [], ◌∷◌, codes, map, Option, Some}
+use Rattle.std.specs.Prelude.{◌≡◌, ℕ, true, List, [], ◌∷◌, codes, map, Option, Some}
 use Rattle.plan_types.specs.Schemas.{Columns, columns}
 use Rattle.plan_types.specs.declared.schema.Schema.{Schema}
 use Rattle.plan_types.specs.declared.dtype.DataType.{DataType}
 use Rattle.plan_types.specs.declared.dtype.DataType.TheVariants as dtype
-use Rattle.plan_types.specs.Types.{Ty}
-use Rattle.plan_types.specs.Values.{Val}
+use Rattle.plan_types.specs.Types.{Ty, NullType, Truth}
+use Rattle.plan_types.specs.Values.{Val, NullValue, TruthValue}
 use Rattle.plan_types.specs.declared.dtype.CastOptions.{CastOptions}
 use Rattle.plan_types.specs.declared.dtype.CastOptions.TheVariants.{NonStrict}
 use Rattle.plan_dsl.specs.declared.operator.Operator.TheVariants.{Eq, Plus}
@@ -18,7 +18,7 @@ use Rattle.plan_arena.specs.declared.ir.IR.TheVariants.{DataFrameScan, Filter}
 use Rattle.plan_arena.specs.declared.expr_ir.OutputName.TheVariants.{ColumnLhs}
 use Rattle.plan_infer.specs.Samples.{int8, int32, two_columns, a, b, binary, cast_to, at, pair, columns_and}
 use Rattle.plan_coerce.specs.InlinedCasts.{literal_cast}
-use Rattle.plan_coerce.specs.Rules.{HasSameCasts, is_strict_node, said, until_strict}
+use Rattle.plan_coerce.specs.Rules.{HasSameWritten, is_settled, until_settled}
 use Rattle.plan_coerce.specs.Turns.{IsFound, IsPlaced, IsStopped, IsTurn}
 
 abbrev pub wide : Expression
@@ -37,16 +37,16 @@ strict_items = columns_and (pair 3 Plus 1 ∷ cast_of 0 dtype.Int32 ∷ [])
 
 -- what the rule of coercion does at nodes over these columns
 abbrev pub IsSumPlaced : List AExpr → List AExpr → ℕ → Type 0
-IsSumPlaced = IsPlaced (said (is_strict_node [] two_columns) [] two_columns) (said (until_strict [] two_columns) [] two_columns) (HasSameCasts [] two_columns) (Some 1) [] two_columns
+IsSumPlaced = IsPlaced (is_settled [] two_columns) (until_settled [] two_columns) (HasSameWritten [] two_columns) (Some 1) [] two_columns
 
 abbrev pub IsSumFound : List AExpr → List AExpr → ℕ → Type 0
-IsSumFound = IsFound (said (is_strict_node [] two_columns) [] two_columns)
+IsSumFound = IsFound (is_settled [] two_columns)
 
 abbrev pub IsSumTurn : List AExpr → List AExpr → ℕ → List ℕ → List ℕ → ℕ → ℕ → Type 0
-IsSumTurn = IsTurn (said (is_strict_node [] two_columns) [] two_columns) (said (until_strict [] two_columns) [] two_columns) (HasSameCasts [] two_columns) (Some 1) [] two_columns
+IsSumTurn = IsTurn (is_settled [] two_columns) (until_settled [] two_columns) (HasSameWritten [] two_columns) (Some 1) [] two_columns
 
 abbrev pub IsSumStopped : List AExpr → List AExpr → ℕ → Type 0
-IsSumStopped = IsStopped (said (is_strict_node [] two_columns) [] two_columns) (said (until_strict [] two_columns) [] two_columns) (HasSameCasts [] two_columns) (Some 1) [] two_columns
+IsSumStopped = IsStopped (is_settled [] two_columns) (until_settled [] two_columns) (HasSameWritten [] two_columns) (Some 1) [] two_columns
 
 -- two columns and whether they are equal
 abbrev pub equal_items : List AExpr
@@ -77,6 +77,13 @@ of type value = node (LiteralOp type value) no_more
 
 abbrev pub told_as : Ty → Val → Option Expression
 told_as type value = Some (of type value)
+
+-- a truth value and null, as literals
+abbrev pub truth : Expression
+truth = of Truth (TruthValue true)
+
+abbrev pub no_truth : Expression
+no_truth = of NullType NullValue
 
 -- what stands for a cast of a literal: each row has the literal's type and value, the type to which it is cast, and the answer
 abbrev pub CastsTo : CastOptions → List (Ty × Val × Ty × Option Expression) → Type 0

@@ -1,112 +1,34 @@
-//! The rule by which casts that can be told beforehand go.
-ghost use Rattle.std.specs.Prelude.{◌≡◌, ◌≢◌, ℕ, List, [], ◌∷◌, None, Some, set, true, false, MatchOption, IfOk, IfErr};
+//! What stands for casts that can be told beforehand: a literal for a cast of one, and what stands under a cast of
+//! `LogicalAnd` or `LogicalOr` to truth values. Casts further in go first.
+ghost use Rattle.std.specs.Prelude.{◌≡◌, ℕ, List, [], ◌∷◌, None, Some, Ok, set, true, MatchOption, IfOk, IfErr};
 ghost use Rattle.plan_types.specs.Errors.{no_memory};
 ghost use Rattle.plan_types.specs.Types.{is_known, ty};
 ghost use Rattle.plan_types.specs.Schemas.{Columns};
 ghost use Rattle.plan_types.specs.ValueViews.{val_of};
-ghost use Rattle.plan_dsl.specs.Literals.{literal_op, literal_type, literal_value};
-ghost use Rattle.plan_dsl.specs.Ops.{CastOp, Expression, Op};
+ghost use Rattle.plan_dsl.specs.Literals.{literal_op, literal_type, literal_value, settled_op};
+ghost use Rattle.plan_dsl.specs.Ops.{CastOp, Expression};
 ghost use Rattle.plan_dsl.specs.Registry.{Registry};
 ghost use Rattle.plan_dsl.specs.Trees.{node, no_more, more};
+ghost use Rattle.plan_dsl.specs.Typing.{Typed, typing};
 ghost use Rattle.plan_arena.specs.declared.aexpr.AExpr.{AExpr};
 ghost use Rattle.plan_arena.specs.Denotation.{Denotes, DenotesTree};
-ghost use Rattle.plan_arena.specs.Items.{HoldsExpression, HoldsFrom, expression_layer};
+ghost use Rattle.plan_arena.specs.Items.{HoldsExpression, expression_layer};
 ghost use Rattle.plan_arena.specs.Layers.{op_of};
-ghost use Rattle.plan_coerce.specs.InlinedCasts.{HasSameInlined, IsToldBy, is_cast_op, is_cast, is_logical, is_told_top, literal_cast, literal_with, stays, until_stays};
-ghost use Rattle.plan_coerce.specs.InliningLaws.{same_inlined_congruent, same_inlined_transitive, stays_steady, until_stays_bounded};
-ghost use Rattle.plan_coerce.specs.Optimizer.{IsSettled};
+ghost use Rattle.plan_coerce.specs.Coercion.{coerced};
+ghost use Rattle.plan_coerce.specs.InlinedCasts.{IsToldBy, IsTypedNode, is_cast_op, is_logical, literal_cast, literal_with, stays};
 ghost use Rattle.plan_coerce.specs.Reaching.{IsClosed, StaysOnce};
-ghost use Rattle.plan_coerce.specs.Rules.{IsReplacement};
+ghost use Rattle.plan_coerce.specs.Rules.{HasSameWritten, IsReplacement, is_strict_node, said, until_settled};
 
-use crate::rule::OptimizationRule;
 use plan_arena::aexpr::AExpr;
 use plan_arena::arena::{Arena, Node};
-use plan_arena::ir::IR;
 use plan_dsl::literal::LiteralValue;
 use plan_dsl::operator::Operator;
-use plan_dsl::udfs::Udfs;
-use plan_infer::steps::Steps;
-use plan_infer::type_table::TypeTable;
 use plan_types::cast::{can_cast, cast_value};
+use plan_types::common_type::materialize_dyn_int;
 use plan_types::dtype::{CastOptions, DataType};
 use plan_types::error::{CastError, ErrorKind, PlanError};
-use plan_types::schema::Schema;
 use plan_types::value::Value;
 use std::alloc::Global;
-use std::sync::ledger::Ledger;
-
-/// Puts a literal in place of a cast of one, where the type has a literal of the value and that isn't null, and what stands
-/// under a cast of `LogicalAnd` or `LogicalOr` to truth values in place of that cast. Casts further in go first.
-#[derive(Clone, Copy, Drop)]
-pub struct CastInliningRule;
-
-impl CastInliningRule {
-    /// Whether a node from the number on is a literal, a `LogicalAnd` or a `LogicalOr`. Where none is, the rule changes no
-    /// expression of such nodes.
-    pub fn may_change(first: usize, expr_arena: &Arena<AExpr>) -> bool
-        ensures told { result ≡ true → (n : ℕ) × (op : Op) × (inputs : List ℕ) × HoldsFrom first expr_arena.now n op inputs × (is_told_top op ≡ true) }
-        ensures stays { result ≡ false → (n : ℕ) (t : Expression) → Denotes (HoldsFrom first expr_arena.now) n t → IsSettled stays t }
-    {
-        for number in first..expr_arena.len() {
-            if is_told(expr_arena.get(Node(number))) {
-                return true;
-            }
-        }
-        false
-    }
-}
-
-impl OptimizationRule for CastInliningRule {
-    ghost settled = { λ rule registry schema. stays };
-
-    ghost measure = { λ rule registry schema. until_stays };
-
-    ghost turns = { λ rule. Some 1 };
-
-    ghost related = { λ rule registry schema. HasSameInlined };
-
-    ghost replaces_plans = { λ rule. false };
-
-    ghost settled_plan = { λ rule registry schema kind. true };
-
-    ghost congruent = { λ rule. same_inlined_congruent };
-
-    ghost transitive = { λ rule. same_inlined_transitive };
-
-    ghost steady = { λ rule. stays_steady };
-
-    ghost bounded = { λ rule. until_stays_bounded };
-
-    fn optimize_plan<M: Ledger>(
-        &self,
-        _expr_arena: &Arena<AExpr>,
-        _lp_arena: &Arena<IR>,
-        _node: Node,
-        _udfs: &Udfs,
-        _types: &mut TypeTable,
-        _typings: &mut Steps<M>,
-    ) -> Result<Option<IR>, PlanError> {
-        Ok(None)
-    }
-
-    fn optimize_expr<M: Ledger>(
-        &self,
-        expr_arena: &mut Arena<AExpr>,
-        node: Node,
-        _schema: &Schema,
-        _udfs: &Udfs,
-        types: &mut TypeTable,
-        _typings: &mut Steps<M>,
-    ) -> Result<Option<AExpr>, PlanError> {
-        match in_place_of(node, expr_arena)? {
-            None => Ok(None),
-            Some(item) => {
-                types.clear();
-                Ok(Some(item))
-            }
-        }
-    }
-}
 
 // What stands at a node, without casts above it that go.
 #[derive(Drop)]
@@ -119,13 +41,13 @@ enum Told {
     Neither,
 }
 
-// The item that is to be put in place of a cast, unless that stays.
-fn in_place_of(node: Node, arena: &Arena<AExpr>) -> Result<Option<AExpr>, PlanError>
-    requires { DenotesTree (HoldsExpression arena.now) node.0 }
-    ensures answer { IfOk result (λ answer. (registry : Registry) (schema : Columns) (t : Expression) → Denotes (HoldsExpression arena.now) node.0 t → MatchOption answer
-        (stays t ≡ true)
-        (λ item. IsReplacement HasSameInlined until_stays registry schema arena.now (set arena.now node.0 item) node.0 t)) }
-    ensures cast { IfOk result (λ answer. (t : Expression) → answer ≢ None → Denotes (HoldsExpression arena.now) node.0 t → is_cast t ≡ true) }
+/// The item that is to be put in place of a strict node, unless that stays.
+pub(crate) fn in_place_of(node: Node, arena: &Arena<AExpr>) -> Result<Option<AExpr>, PlanError>
+    requires { IsTypedNode arena.now node.0 }
+    ensures answer { IfOk result (λ answer. (registry : Registry) (schema : Columns) (t : Expression) (typed : Typed) → Denotes (HoldsExpression arena.now) node.0 t → typing registry schema t ≡ Ok typed →
+        said (is_strict_node registry schema) registry schema t ≡ true → MatchOption answer
+        (stays (coerced registry schema t) ≡ true)
+        (λ item. IsReplacement (HasSameWritten registry schema) (until_settled registry schema) registry schema arena.now (set arena.now node.0 item) node.0 t)) }
     ensures reaches { IfOk result (λ answer. MatchOption answer Unit (λ item. IsClosed arena.now (node.0 ∷ []) (set arena.now node.0 item))) }
     ensures once { IfOk result (λ answer. MatchOption answer Unit (λ item. StaysOnce arena.now (set arena.now node.0 item) node.0)) }
     ensures err { IfErr result (λ error. error ≡ no_memory) }
@@ -143,27 +65,17 @@ fn in_place_of(node: Node, arena: &Arena<AExpr>) -> Result<Option<AExpr>, PlanEr
     }
 }
 
-fn is_cast(item: &AExpr) -> bool
+pub(crate) fn is_cast(item: &AExpr) -> bool
     ensures { result ≡ is_cast_op (op_of (expression_layer item.now)) }
 {
     matches!(item, AExpr::Cast { .. })
 }
 
-// Whether a cast of it can be told beforehand.
-fn is_told(item: &AExpr) -> bool
-    ensures { result ≡ is_told_top (op_of (expression_layer item.now)) }
-{
-    match item {
-        AExpr::Literal(_) => true,
-        AExpr::BinaryExpr { op, .. } => is_logical(*op),
-        _ => false,
-    }
-}
-
 // What stands at a node, without casts that go.
 fn told_at(node: Node, arena: &Arena<AExpr>) -> Result<Told, PlanError>
     requires { DenotesTree (HoldsExpression arena.now) node.0 }
-    ensures ok { IfOk result (λ told. (t : Expression) → Denotes (HoldsExpression arena.now) node.0 t → IsToldBy arena.now node.0 t told) }
+    ensures ok { IfOk result (λ told. (registry : Registry) (schema : Columns) (t : Expression) (typed : Typed) → Denotes (HoldsExpression arena.now) node.0 t → typing registry schema t ≡ Ok typed →
+        IsToldBy registry schema arena.now node.0 t told) }
     ensures err { IfErr result (λ error. error ≡ no_memory) }
 {
     match arena.get(node) {
@@ -203,8 +115,9 @@ fn cast_of(
     dtype: &DataType,
     options: CastOptions,
 ) -> Result<Told, PlanError>
-    ensures ok { IfOk result (λ found. (items : List AExpr) (n k : ℕ) (x : Expression) → HoldsExpression items n (CastOp (ty dtype.now) options) (k ∷ []) → IsToldBy items k x told →
-        IsToldBy items n (node (CastOp (ty dtype.now) options) (more x no_more)) found) }
+    ensures ok { IfOk result (λ found. (registry : Registry) (schema : Columns) (items : List AExpr) (n k : ℕ) (x : Expression) (typed : Typed) → HoldsExpression items n (CastOp (ty dtype.now) options) (k ∷ []) →
+        typing registry schema (node (CastOp (ty dtype.now) options) (more x no_more)) ≡ Ok typed → IsToldBy registry schema items k x told →
+        IsToldBy registry schema items n (node (CastOp (ty dtype.now) options) (more x no_more)) found) }
     ensures err { IfErr result (λ error. error ≡ no_memory) }
 {
     match told {
@@ -213,10 +126,26 @@ fn cast_of(
             DataType::Boolean => Ok(Told::Logical(node)),
             _ => Ok(Told::Neither),
         },
-        Told::Literal(value) => match literal_cast(alloc, value, dtype, options)? {
+        Told::Literal(value) => match literal_cast(alloc, settled(value), dtype, options)? {
             None => Ok(Told::Neither),
             Some(made) => Ok(Told::Literal(made)),
         },
+    }
+}
+
+// A literal of the type that a number without one has alone, or another literal.
+fn settled(value: LiteralValue) -> LiteralValue
+    ensures { literal_op result ≡ settled_op (literal_op value) }
+{
+    let LiteralValue::Int(number) = value else {
+        return value;
+    };
+    let Some(own) = materialize_dyn_int(number) else {
+        return value;
+    };
+    match LiteralValue::of_number(&own, number) {
+        Some(typed) => typed,
+        None => unreachable!(),
     }
 }
 

@@ -1,4 +1,4 @@
-//! The rule that each node has operands of the types to which it takes them.
+//! The rule that each node has operands of the types to which it takes them, and is no cast that can be told beforehand.
 ghost use Rattle.std.specs.Prelude.{◌≡◌, ◌≢◌, ℕ, ℤ, ◌≤◌, List, [], ◌∷◌, Some, length, slice_get, map, set, true, MatchOption, IfOk, IfErr, OnOk, false};
 ghost use Rattle.std.specs.List.{AllByRecursion};
 ghost use Rattle.plan_types.specs.CommonTypes.{type_alone};
@@ -17,12 +17,12 @@ ghost use Rattle.plan_arena.specs.Layers.{inputs_of};
 ghost use Rattle.plan_infer.specs.declared.type_table.Inferred.{Inferred};
 ghost use Rattle.plan_infer.specs.KeptTypes.{Extends, HasRightTypes, IsKept, IsRight, KeepsEntry, typings_at};
 ghost use Rattle.plan_infer.specs.Typed.{HasType};
-ghost use Rattle.plan_coerce.specs.CoercedLaws.{same_casts_congruent, same_casts_transitive, until_strict_bounded};
+ghost use Rattle.plan_coerce.specs.CoercedLaws.{same_written_congruent, same_written_transitive, settled_steady, until_settled_bounded};
 ghost use Rattle.plan_coerce.specs.Coercion.{AllStrictFrom, IsOver, TakesOperands};
 ghost use Rattle.plan_coerce.specs.Reaching.{IsClosed, StaysOnce};
-ghost use Rattle.plan_coerce.specs.Rules.{CanReplace, HasSameCasts, IsReplacement, KeepsNumber, is_strict_node, said, until_strict};
-ghost use Rattle.plan_coerce.specs.RuleLaws.{said_steady};
+ghost use Rattle.plan_coerce.specs.Rules.{CanReplace, HasSameWritten, IsReplacement, KeepsNumber, is_settled, is_strict_node, said, until_settled};
 
+use crate::cast_inlining::{in_place_of, is_cast};
 use crate::rule::OptimizationRule;
 use crate::type_coercion::{number_under, operands_to};
 use plan_arena::aexpr::AExpr;
@@ -38,31 +38,32 @@ use plan_types::error::PlanError;
 use plan_types::schema::Schema;
 use std::sync::ledger::Ledger;
 
-/// Puts casts round the operands of a node, or literals of a type in place of numbers without one. A node is settled where
-/// it is strict.
+/// Puts casts round the operands of a node, or literals of a type in place of numbers without one; a literal in place of a
+/// cast of one, where the type has a literal of the value and that isn't null; and what stands under a cast of `LogicalAnd`
+/// or `LogicalOr` to truth values in place of that cast. A node is settled where it is strict and no such cast.
 #[derive(Clone, Copy, Drop)]
 pub struct TypeCoercionRule;
 
 impl OptimizationRule for TypeCoercionRule {
-    ghost settled = { λ rule registry schema. said (is_strict_node registry schema) registry schema };
+    ghost settled = { λ rule. is_settled };
 
-    ghost measure = { λ rule registry schema. said (until_strict registry schema) registry schema };
+    ghost measure = { λ rule. until_settled };
 
     ghost turns = { λ rule. Some 8 };
 
-    ghost related = { λ rule. HasSameCasts };
+    ghost related = { λ rule. HasSameWritten };
 
     ghost replaces_plans = { λ rule. false };
 
     ghost settled_plan = { λ rule registry schema kind. true };
 
-    ghost congruent = { λ rule. same_casts_congruent };
+    ghost congruent = { λ rule. same_written_congruent };
 
-    ghost transitive = { λ rule. same_casts_transitive };
+    ghost transitive = { λ rule. same_written_transitive };
 
-    ghost steady = { λ rule registry schema. said_steady (is_strict_node registry schema) (HasSameCasts registry schema) registry schema };
+    ghost steady = { λ rule. settled_steady };
 
-    ghost bounded = { λ rule. until_strict_bounded };
+    ghost bounded = { λ rule. until_settled_bounded };
 
     fn optimize_plan<M: Ledger>(
         &self,
@@ -85,11 +86,11 @@ impl OptimizationRule for TypeCoercionRule {
         types: &mut TypeTable,
         typings: &mut Steps<M>,
     ) -> Result<Option<AExpr>, PlanError> {
-        if is_settled(node, types) {
+        if is_settled(node, types) && !is_cast(expr_arena.get(node)) {
             return Ok(None);
         }
         infer_once(node, schema, expr_arena, udfs, types, typings)?;
-        match item_for(node, expr_arena, types) {
+        match replacement(node, expr_arena, types) {
             Ok(answer) => Ok(answer),
             Err(error) => {
                 types.clear();
@@ -134,6 +135,40 @@ pub(crate) fn infer_once<M: Ledger>(
     Ok(())
 }
 
+// The item that is to be put in place of a node of which a type is kept, unless it is settled. Where there is no memory for
+// it the table may keep less than it should.
+fn replacement(
+    node: Node,
+    arena: &mut Arena<AExpr>,
+    types: &mut TypeTable,
+) -> Result<Option<AExpr>, PlanError>
+    requires right { HasRightTypes arena.old types.old }
+    requires kept { IsKept types.old node.0 }
+    ensures answer { IfOk result (λ answer. (registry : Registry) (schema : Columns) (t : Expression) → IsRight registry schema arena.old types.old →
+        Denotes (HoldsExpression arena.old) node.0 t → MatchOption answer (is_settled registry schema t ≡ true)
+        (λ item. IsReplacement (HasSameWritten registry schema) (until_settled registry schema) registry schema arena.old (set arena.new node.0 item) node.0 t)) }
+    ensures reaches { IfOk result (λ answer. MatchOption answer Unit (λ item. IsClosed arena.old (node.0 ∷ []) (set arena.new node.0 item))) }
+    ensures once { IfOk result (λ answer. MatchOption answer Unit (λ item. StaysOnce arena.old (set arena.new node.0 item) node.0)) }
+    ensures placed { IfOk result (λ answer. MatchOption answer Unit (λ item. (registry : Registry) (schema : Columns) → IsRight registry schema arena.old types.old →
+        ¬ (KeepsNumber types.new node.0) → IsRight registry schema (set arena.new node.0 item) types.new)) }
+    ensures right { OnOk result ((registry : Registry) (schema : Columns) → IsRight registry schema arena.old types.old → IsRight registry schema arena.new types.new) }
+    ensures grows { Grows arena.old arena.new }
+    ensures same { IfOk result (λ answer. answer ≡ None → arena.new ≡ arena.old) }
+    ensures table { IfOk result (λ answer. answer ≡ None → types.new ≡ types.old) }
+    ensures err { IfErr result (λ error. error ≡ no_memory) }
+{
+    match item_for(node, arena, types)? {
+        Some(item) => Ok(Some(item)),
+        None => match in_place_of(node, arena)? {
+            None => Ok(None),
+            Some(told) => {
+                types.clear();
+                Ok(Some(told))
+            }
+        },
+    }
+}
+
 // The item that is to be put in place of a node, unless it is strict. Where there is no memory for it the table may keep
 // less than it should.
 fn item_for(
@@ -145,7 +180,7 @@ fn item_for(
     requires kept { IsKept types.old node.0 }
     ensures answer { IfOk result (λ answer. (registry : Registry) (schema : Columns) (t : Expression) → IsRight registry schema arena.old types.old →
         Denotes (HoldsExpression arena.old) node.0 t → MatchOption answer (said (is_strict_node registry schema) registry schema t ≡ true)
-        (λ item. IsReplacement (HasSameCasts registry schema) (said (until_strict registry schema) registry schema) registry schema arena.old (set arena.new node.0 item) node.0 t)) }
+        (λ item. IsReplacement (HasSameWritten registry schema) (until_settled registry schema) registry schema arena.old (set arena.new node.0 item) node.0 t)) }
     ensures reaches { IfOk result (λ answer. MatchOption answer Unit (λ item. IsClosed arena.old (node.0 ∷ []) (set arena.new node.0 item))) }
     ensures once { IfOk result (λ answer. MatchOption answer Unit (λ item. StaysOnce arena.old (set arena.new node.0 item) node.0)) }
     ensures placed { IfOk result (λ answer. MatchOption answer Unit (λ item. (registry : Registry) (schema : Columns) → IsRight registry schema arena.old types.old →
@@ -184,7 +219,7 @@ fn item_over(
     requires takes { (own : Inferred) → KeepsEntry types.old node.0 own → TakesOperands own }
     ensures answer { IfOk result (λ answer. (registry : Registry) (schema : Columns) (t : Expression) → IsRight registry schema arena.old types.old →
         Denotes (HoldsExpression arena.old) node.0 t → MatchOption answer (said (is_strict_node registry schema) registry schema t ≡ true)
-        (λ item. IsReplacement (HasSameCasts registry schema) (said (until_strict registry schema) registry schema) registry schema arena.old (set arena.new node.0 item) node.0 t)) }
+        (λ item. IsReplacement (HasSameWritten registry schema) (until_settled registry schema) registry schema arena.old (set arena.new node.0 item) node.0 t)) }
     ensures reaches { IfOk result (λ answer. MatchOption answer Unit (λ item. IsClosed arena.old (node.0 ∷ []) (set arena.new node.0 item))) }
     ensures once { IfOk result (λ answer. MatchOption answer Unit (λ item. StaysOnce arena.old (set arena.new node.0 item) node.0)) }
     ensures placed { IfOk result (λ answer. MatchOption answer Unit (λ item. (registry : Registry) (schema : Columns) → IsRight registry schema arena.old types.old →

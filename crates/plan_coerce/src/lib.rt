@@ -4,6 +4,7 @@
 pub mod cast_inlining;
 pub mod coercion_rule;
 mod examples;
+pub mod laws;
 pub mod rule;
 pub mod stack_opt;
 pub mod type_check;

@@ -4,7 +4,7 @@ ghost use Rattle.std.specs.List.{AllByRecursion};
 ghost use Rattle.plan_types.specs.Errors.{no_memory};
 ghost use Rattle.plan_types.specs.Schemas.{Columns};
 ghost use Rattle.plan_types.specs.CommonTypes.{type_alone};
-ghost use Rattle.plan_types.specs.Types.{Ty, Untyped, is_known, ty};
+ghost use Rattle.plan_types.specs.Types.{Ty, Untyped, is_known, same_type, ty};
 ghost use Rattle.plan_types.specs.Values.{IntValue};
 ghost use Rattle.plan_types.specs.Casts.{can_cast};
 ghost use Rattle.plan_types.specs.declared.dtype.CastOptions.TheVariants.{NonStrict};
@@ -219,7 +219,7 @@ fn add_number_cast(
     ensures closed { OnOk result ((start : List AExpr) (roots : List ℕ) → length start ≤ length arena.old →
         IsClosed start roots arena.old → IsClosed start roots arena.new) }
     ensures added { OnOk result ((registry : Registry) (schema : Columns) (start : ℕ) → start ≤ length arena.old → IsRight registry schema arena.old types.old →
-        is_known (ty target) ≡ true → AllStrictFrom start arena.old types.old → AllStrictFrom start arena.new types.new) }
+        is_known (ty target) ≡ true → integer_has (ty target) number ≡ false → AllStrictFrom start arena.old types.old → AllStrictFrom start arena.new types.new) }
     ensures once { IfOk result (λ cast. HasNewNodes arena.old arena.new cast.0) }
     ensures extends { OnOk result (Extends types.old types.new) }
     ensures grows { Grows arena.old arena.new }
@@ -253,8 +253,8 @@ fn add_cast(
     ensures kept { IfOk result (λ cast. IsKept types.new cast.0) }
     ensures closed { OnOk result ((start : List AExpr) (roots : List ℕ) → Near start roots input.0 →
         IsClosed start roots arena.old → IsClosed start roots arena.new) }
-    ensures added { OnOk result ((registry : Registry) (schema : Columns) (start : ℕ) → start ≤ length arena.old → IsRight registry schema arena.old types.old →
-        is_known (ty target) ≡ true → AllStrictFrom start arena.old types.old → AllStrictFrom start arena.new types.new) }
+    ensures added { OnOk result ((registry : Registry) (schema : Columns) (start : ℕ) (from : Inferred) → start ≤ length arena.old → IsRight registry schema arena.old types.old →
+        is_known (ty target) ≡ true → KeepsEntry types.old input.0 from → same_type (ty from.dtype) (ty target) ≡ false → AllStrictFrom start arena.old types.old → AllStrictFrom start arena.new types.new) }
     ensures once { IfOk result (λ cast. IsPutOnce arena.old arena.new input.0 cast.0) }
     ensures extends { OnOk result (Extends types.old types.new) }
     ensures grows { Grows arena.old arena.new }
@@ -290,8 +290,8 @@ fn put_cast(
     ensures kept { IfOk result (λ cast. IsKept types.new cast.0) }
     ensures closed { OnOk result ((start : List AExpr) (roots : List ℕ) → Near start roots input.0 →
         IsClosed start roots arena.old → IsClosed start roots arena.new) }
-    ensures added { OnOk result ((registry : Registry) (schema : Columns) (start : ℕ) → start ≤ length arena.old → IsRight registry schema arena.old types.old →
-        is_known (ty target) ≡ true → AllStrictFrom start arena.old types.old → AllStrictFrom start arena.new types.new) }
+    ensures added { OnOk result ((registry : Registry) (schema : Columns) (start : ℕ) (from : Inferred) → start ≤ length arena.old → IsRight registry schema arena.old types.old →
+        is_known (ty target) ≡ true → KeepsEntry types.old input.0 from → same_type (ty from.dtype) (ty target) ≡ false → AllStrictFrom start arena.old types.old → AllStrictFrom start arena.new types.new) }
     ensures once { IfOk result (λ cast. IsPutOnce arena.old arena.new input.0 cast.0) }
     ensures extends { OnOk result (Extends types.old types.new) }
     ensures grows { Grows arena.old arena.new }

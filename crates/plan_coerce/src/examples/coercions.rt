@@ -6,13 +6,14 @@ ghost use Rattle.plan_types.specs.declared.dtype.DataType.{DataType};
 ghost use Rattle.plan_types.specs.declared.dtype.DataType.TheVariants as dtype;
 ghost use Rattle.plan_types.specs.declared.dtype.TimeUnit.TheVariants.{Nanoseconds, Microseconds, Milliseconds};
 ghost use Rattle.plan_dsl.specs.declared.literal.LiteralValue.TheVariants.{Int, Int8};
-ghost use Rattle.plan_dsl.specs.declared.operator.Operator.TheVariants.{Eq, Plus};
+ghost use Rattle.plan_dsl.specs.declared.operator.Operator.TheVariants.{Eq, LogicalAnd, Plus};
 ghost use Rattle.plan_arena.specs.declared.aexpr.AExpr.TheVariants.{Column, Literal};
 ghost use Rattle.plan_infer.specs.Typed.{DenotesTyped, DenotesKnown};
 ghost use Rattle.plan_coerce.specs.Coercion.{KeepsBelow, coerced};
 ghost use Rattle.plan_coerce.specs.InlinedCasts.{written_out};
-ghost use Rattle.plan_coerce.specs.Optimizer.{AreWrittenOut, DenotesLike, IsCoerced, StaysLike};
-ghost use Rattle.plan_coerce.specs.Rules.{HasSameCasts};
+ghost use Rattle.plan_coerce.specs.Kinds.{IsOfAKind, IsStep};
+ghost use Rattle.plan_coerce.specs.Optimizer.{AreWrittenOut, DenotesLike, StaysLike};
+ghost use Rattle.plan_coerce.specs.Rules.{HasSameWritten};
 ghost use Rattle.plan_coerce.specs.Reaching.{IsReached, Near};
 ghost use Rattle.plan_infer.specs.Samples.{int8, int32, int64, one_column, columns_of, two_columns, struct_of, a, b, literal, number, five, binary, cast_to, sum, pair, columns_and, sum_items, a_items};
 ghost use Rattle.plan_coerce.specs.Samples.{cast_of, of, strict_items, strict_sum};
@@ -49,20 +50,20 @@ pub fn casts_of_other_operands()
     ensures structs { coerced [] (columns_of (struct_of (codes "x") TextType) (struct_of (codes "x") Truth)) (binary Eq a b) ≡ binary Eq a (cast_to (struct_of (codes "x") TextType) b) }
 {}
 
-/// Coercion leaves items below a number, makes each tree one that says the same, and each root's a strict one.
+/// Coercion leaves items below a number, and of each root what it denoted, written out. Trees stay like what they were.
 pub fn coerced_sums()
-    ensures cast { IsCoerced [] two_columns 0 sum_items strict_items (2 ∷ []) }
-    ensures unchanged { ¬ (IsCoerced [] two_columns 0 sum_items sum_items (2 ∷ [])) }
+    ensures cast { AreWrittenOut [] two_columns 0 sum_items strict_items (2 ∷ []) }
+    ensures unchanged { ¬ (AreWrittenOut [] two_columns 0 sum_items sum_items (2 ∷ [])) }
     ensures both_to_another_type { let after = columns_and (pair 3 Plus 4 ∷ cast_of 0 dtype.Int64 ∷ cast_of 1 dtype.Int64 ∷ []) in
-        ¬ (IsCoerced [] two_columns 0 sum_items after (2 ∷ [])) }
-    ensures turned_round { ¬ (IsCoerced [] two_columns 0 sum_items (columns_and (pair 1 Plus 3 ∷ cast_of 0 dtype.Int32 ∷ [])) (2 ∷ [])) }
-    ensures number_left { ¬ (IsCoerced [] [] 0 (Literal (Int (pos 5)) ∷ []) (Literal (Int (pos 5)) ∷ []) (0 ∷ [])) }
-    ensures item_below { ¬ (IsCoerced [] [] 1 a_items (Column (codes "b") ∷ []) []) }
-    ensures nothing_done { StaysLike (HasSameCasts [] (one_column int8)) [] (one_column int8) (columns_and []) (columns_and []) }
-    ensures other_tree { ¬ (StaysLike (HasSameCasts [] (columns_of int8 int8)) [] (columns_of int8 int8) a_items (Column (codes "b") ∷ [])) }
+        ¬ (AreWrittenOut [] two_columns 0 sum_items after (2 ∷ [])) }
+    ensures turned_round { ¬ (AreWrittenOut [] two_columns 0 sum_items (columns_and (pair 1 Plus 3 ∷ cast_of 0 dtype.Int32 ∷ [])) (2 ∷ [])) }
+    ensures number_left { ¬ (AreWrittenOut [] [] 0 (Literal (Int (pos 5)) ∷ []) (Literal (Int (pos 5)) ∷ []) (0 ∷ [])) }
+    ensures item_below { ¬ (AreWrittenOut [] [] 1 a_items (Column (codes "b") ∷ []) []) }
+    ensures nothing_done { StaysLike (HasSameWritten [] (one_column int8)) [] (one_column int8) (columns_and []) (columns_and []) }
+    ensures other_tree { ¬ (StaysLike (HasSameWritten [] (columns_of int8 int8)) [] (columns_of int8 int8) a_items (Column (codes "b") ∷ [])) }
     ensures items_below { KeepsBelow 1 (columns_and []) (Column (codes "a") ∷ Column (codes "c") ∷ []) }
-    ensures same { DenotesLike (HasSameCasts [] (one_column int8)) [] (one_column int8) a_items 0 a }
-    ensures not_same { ¬ (DenotesLike (HasSameCasts [] (columns_of int8 int8)) [] (columns_of int8 int8) (Column (codes "b") ∷ []) 0 a) }
+    ensures same { DenotesLike (HasSameWritten [] (one_column int8)) [] (one_column int8) a_items 0 a }
+    ensures not_same { ¬ (DenotesLike (HasSameWritten [] (columns_of int8 int8)) [] (columns_of int8 int8) (Column (codes "b") ∷ []) 0 a) }
 {}
 
 /// A root reaches itself and what its inputs lead to. Nodes that are added are near.
@@ -74,11 +75,20 @@ pub fn reached_nodes()
     ensures not_near { ¬ (Near sum_items (0 ∷ []) 1) }
 {}
 
-/// Both rules leave items below a number, and of each root what it denoted, with its casts written out.
+/// What is written out has its casts, but for those that can be told beforehand.
 #[tactic(auto, unfolding(crate::proofs::OnLiterals::texts_on_literals))]
 pub fn sums_written_out()
-    ensures cast { AreWrittenOut [] two_columns 0 sum_items strict_items (2 ∷ []) }
     ensures none { written_out [] two_columns strict_sum ≡ strict_sum }
     ensures literal_cast { written_out [] two_columns (binary Plus b (literal int8 (pos 5))) ≡ binary Plus b (literal int32 (pos 5)) }
     ensures number_cast_to_a_text { written_out [] (one_column TextType) (cast_to TextType five) ≡ of TextType (text "5") }
+{}
+
+/// What is replaced is of four kinds, at any node: a cast to another type is put round an operand, a number without a type
+/// gets one, a cast of a literal becomes a literal, and one of `LogicalAnd` or `LogicalOr` is gone.
+pub fn replacements_by_kind()
+    ensures cast_put { IsStep [] two_columns sum strict_sum }
+    ensures same_type { ¬ (IsOfAKind [] two_columns a (cast_to int8 a)) }
+    ensures number_typed { IsOfAKind [] [] five (literal int8 (pos 5)) }
+    ensures literal_told { IsOfAKind [] [] (cast_to int8 (literal int32 (pos 5))) (literal int8 (pos 5)) }
+    ensures cast_gone { IsOfAKind [] two_columns (cast_to Truth (binary LogicalAnd a b)) (binary LogicalAnd a b) }
 {}

@@ -60,11 +60,11 @@ pub fn casts_of_logical_operators()
 
 /// What is found at a node through casts: a literal, the node of a `LogicalAnd` or `LogicalOr`, or neither.
 pub fn what_is_found_under_casts()
-    ensures literal { IsToldBy [] 0 (cast_to int8 (literal int32 (pos 5))) (Literal (Int8 (pos 5))) }
-    ensures other_literal { ¬ (IsToldBy [] 0 (cast_to int8 (literal int32 (pos 5))) (Literal (Int8 (pos 6)))) }
-    ensures neither { IsToldBy [] 0 (cast_to int8 a) Neither }
-    ensures cast_that_stays { IsToldBy [] 0 (cast_to int8 (literal int32 (pos 300))) Neither }
-    ensures one_of_them { ¬ (IsToldBy [] 0 (binary LogicalAnd a b) Neither) }
+    ensures literal { IsToldBy [] [] [] 0 (cast_to int8 (literal int32 (pos 5))) (Literal (Int8 (pos 5))) }
+    ensures other_literal { ¬ (IsToldBy [] [] [] 0 (cast_to int8 (literal int32 (pos 5))) (Literal (Int8 (pos 6)))) }
+    ensures neither { IsToldBy [] [] [] 0 (cast_to int8 a) Neither }
+    ensures cast_that_stays { IsToldBy [] [] [] 0 (cast_to int8 (literal int32 (pos 300))) Neither }
+    ensures one_of_them { ¬ (IsToldBy [] [] [] 0 (binary LogicalAnd a b) Neither) }
     ensures itself { LeadsTo [] 2 (binary And a b) 2 (binary And a b) }
     ensures below { LeadsTo (columns_and (pair 0 LogicalAnd 1 ∷ cast_of 2 dtype.Boolean ∷ [])) 3 (cast_to Truth (binary LogicalAnd a b)) 2 (binary LogicalAnd a b) }
     ensures elsewhere { ¬ (LeadsTo [] 3 (binary And a b) 2 (binary And a b)) }

@@ -26,7 +26,7 @@ ghost use Rattle.plan_infer.specs.Samples.{int8, int32, two_columns, a, b, five,
 ghost use Rattle.plan_coerce.specs.Coercion.{AllReady, AllStrictFrom, AreChanged, IsChanged, IsOver, IsOverOperands, IsReady, IsReadyAt, KeepsStrict, TakesOperands};
 ghost use Rattle.plan_coerce.specs.Optimizer.{AreApart, AreRoots, AreSettled, AreTrees, AreTypedRoots, DenotesSettled, EndsSettled, EndsTyped, HasTyping, IsCoercionRefusal, IsNumberRoot, IsPlanTurn, IsSettled, IsTypedRoot, LeadsToNoNumber, ReachesNear, StaysApart, StaysFinite, StaysLikeBeside, StaysLikeTyped, StaysOver, TypesNumber, all_with_inputs, with_inputs};
 ghost use Rattle.plan_coerce.specs.Reaching.{AreMadeOnce, HasNewNodes, IsClosed, IsMadeOnce, IsPutOnce, StaysOnce};
-ghost use Rattle.plan_coerce.specs.Rules.{IsSettledPlan, HasAcceptedInputs, HasSameCasts, HasUncheckedInputs, IsCongruent, IsLike, IsPlanNode, IsPlanReplacement, IsReplacement, IsSteady, KeepsNumber, RefusesPredicate, StandsOver, has_truth, is_strict_node, said, until_strict};
+ghost use Rattle.plan_coerce.specs.Rules.{IsSettledPlan, HasAcceptedInputs, HasSameWritten, HasUncheckedInputs, IsCongruent, IsLike, IsPlanNode, IsPlanReplacement, IsReplacement, IsSteady, KeepsNumber, RefusesPredicate, StandsOver, has_truth, is_settled, until_settled};
 ghost use Rattle.plan_coerce.specs.Unchecked.{KeepsOtherRules, unchecked_kinds, unchecked_schema};
 ghost use Rattle.plan_coerce.specs.Samples.{named_twice, cast_of, strict_items, strict_sum, equal_items, filter_by, scan_and, filters, ForSchema, IsSumFound, IsSumPlaced, IsSumStopped, IsSumTurn};
 
@@ -44,30 +44,30 @@ pub fn nodes_with_inputs()
 
 /// An expression is settled where each of its nodes is, also those below one that is.
 pub fn settled_expressions()
-    ensures strict { IsSettled (said (is_strict_node [] two_columns) [] two_columns) strict_sum }
-    ensures without_a_cast { ¬ (IsSettled (said (is_strict_node [] two_columns) [] two_columns) sum) }
-    ensures below { ¬ (IsSettled (said (is_strict_node [] two_columns) [] two_columns) (cast_to int8 sum)) }
+    ensures strict { IsSettled (is_settled [] two_columns) strict_sum }
+    ensures without_a_cast { ¬ (IsSettled (is_settled [] two_columns) sum) }
+    ensures below { ¬ (IsSettled (is_settled [] two_columns) (cast_to int8 sum)) }
     ensures by_another_rule { IsSettled (λ t. true) sum }
-    ensures number { ¬ (IsSettled (said (is_strict_node [] []) [] []) five) }
-    ensures each { AreSettled (said (is_strict_node [] two_columns) [] two_columns) (more a (more strict_sum no_more)) }
-    ensures not_each { ¬ (AreSettled (said (is_strict_node [] two_columns) [] two_columns) (more a (more sum no_more))) }
+    ensures number { ¬ (IsSettled (is_settled [] []) five) }
+    ensures each { AreSettled (is_settled [] two_columns) (more a (more strict_sum no_more)) }
+    ensures not_each { ¬ (AreSettled (is_settled [] two_columns) (more a (more sum no_more))) }
     ensures none { AreSettled (λ t. false) no_more }
-    ensures node { DenotesSettled (said (is_strict_node [] two_columns) [] two_columns) strict_items 2 }
-    ensures unsettled_node { ¬ (DenotesSettled (said (is_strict_node [] two_columns) [] two_columns) sum_items 2) }
-    ensures settled_input { DenotesSettled (said (is_strict_node [] two_columns) [] two_columns) sum_items 0 }
+    ensures node { DenotesSettled (is_settled [] two_columns) strict_items 2 }
+    ensures unsettled_node { ¬ (DenotesSettled (is_settled [] two_columns) sum_items 2) }
+    ensures settled_input { DenotesSettled (is_settled [] two_columns) sum_items 0 }
     ensures no_such_node { ¬ (DenotesSettled (λ t. true) sum_items 3) }
 {}
 
 /// A root is typed. A number without a type is none, unless the rule settles what stands over such numbers, though it has a
 /// typing.
 pub fn roots_that_are_typed()
-    ensures sum { IsTypedRoot (said (is_strict_node [] two_columns) [] two_columns) [] two_columns sum_items 2 }
-    ensures number { ¬ (IsTypedRoot (said (is_strict_node [] []) [] []) [] [] (Literal (Int (pos 5)) ∷ []) 0) }
+    ensures sum { IsTypedRoot (is_settled [] two_columns) [] two_columns sum_items 2 }
+    ensures number { ¬ (IsTypedRoot (is_settled [] []) [] [] (Literal (Int (pos 5)) ∷ []) 0) }
     ensures number_of_another_rule { IsTypedRoot (λ t. true) [] [] (Literal (Int (pos 5)) ∷ []) 0 }
     ensures no_such_column { ¬ (IsTypedRoot (λ t. true) [] [] a_items 0) }
     ensures no_such_node { ¬ (IsTypedRoot (λ t. true) [] two_columns sum_items 3) }
-    ensures all { AreTypedRoots (said (is_strict_node [] two_columns) [] two_columns) [] two_columns sum_items (2 ∷ 0 ∷ []) }
-    ensures not_all { ¬ (AreTypedRoots (said (is_strict_node [] two_columns) [] two_columns) [] two_columns sum_items (2 ∷ 3 ∷ [])) }
+    ensures all { AreTypedRoots (is_settled [] two_columns) [] two_columns sum_items (2 ∷ 0 ∷ []) }
+    ensures not_all { ¬ (AreTypedRoots (is_settled [] two_columns) [] two_columns sum_items (2 ∷ 3 ∷ [])) }
     ensures number_has_a_typing { HasTyping [] [] (Literal (Int (pos 5)) ∷ []) 0 }
     ensures column_has_none { ¬ (HasTyping [] [] a_items 0) }
 {}
@@ -78,42 +78,42 @@ pub fn roots_that_are_numbers()
     ensures number { IsNumberRoot [] [] (Literal (Int (pos 5)) ∷ []) 0 }
     ensures column { ¬ (IsNumberRoot [] two_columns sum_items 0) }
     ensures no_such_column { ¬ (IsNumberRoot [] [] a_items 0) }
-    ensures alone { AreRoots (said (is_strict_node [] []) [] []) [] [] (Literal (Int (pos 5)) ∷ []) (0 ∷ []) }
-    ensures twice { ¬ (AreRoots (said (is_strict_node [] []) [] []) [] [] (Literal (Int (pos 5)) ∷ []) (0 ∷ 0 ∷ [])) }
-    ensures typed { AreRoots (said (is_strict_node [] two_columns) [] two_columns) [] two_columns sum_items (2 ∷ []) }
-    ensures not_typed { ¬ (AreRoots (said (is_strict_node [] []) [] []) [] [] a_items (0 ∷ [])) }
-    ensures ends_typed { EndsTyped (said (is_strict_node [] []) [] []) (HasSameCasts [] []) [] [] (Literal (Int32 (pos 5)) ∷ []) 0 five }
-    ensures other_type { ¬ (EndsTyped (said (is_strict_node [] []) [] []) (HasSameCasts [] []) [] [] (Literal (Int8 (pos 5)) ∷ []) 0 five) }
-    ensures ends_settled { EndsSettled (said (is_strict_node [] []) [] []) (HasSameCasts [] []) [] [] (Literal (Int (pos 5)) ∷ []) (Literal (Int32 (pos 5)) ∷ []) 0 }
-    ensures ends_with_other_type { ¬ (EndsSettled (said (is_strict_node [] []) [] []) (HasSameCasts [] []) [] [] (Literal (Int (pos 5)) ∷ []) (Literal (Int8 (pos 5)) ∷ []) 0) }
-    ensures typed_alone { TypesNumber (said (is_strict_node [] []) [] []) (HasSameCasts [] []) [] [] (Literal (Int (pos 5)) ∷ []) (Literal (Int32 (pos 5)) ∷ []) (0 ∷ []) }
-    ensures left_alone { ¬ (TypesNumber (said (is_strict_node [] []) [] []) (HasSameCasts [] []) [] [] (Literal (Int (pos 5)) ∷ []) (Literal (Int (pos 5)) ∷ []) (0 ∷ [])) }
-    ensures beside { StaysLikeBeside (HasSameCasts [] []) [] [] (Literal (Int (pos 5)) ∷ []) (Literal (Int32 (pos 5)) ∷ []) (0 ∷ []) }
-    ensures no_root { ¬ (StaysLikeBeside (HasSameCasts [] []) [] [] (Literal (Int (pos 5)) ∷ []) (Literal (Int32 (pos 5)) ∷ []) []) }
-    ensures without_a_type { ¬ (EndsTyped (said (is_strict_node [] []) [] []) (HasSameCasts [] []) [] [] (Literal (Int (pos 5)) ∷ []) 0 five) }
+    ensures alone { AreRoots (is_settled [] []) [] [] (Literal (Int (pos 5)) ∷ []) (0 ∷ []) }
+    ensures twice { ¬ (AreRoots (is_settled [] []) [] [] (Literal (Int (pos 5)) ∷ []) (0 ∷ 0 ∷ [])) }
+    ensures typed { AreRoots (is_settled [] two_columns) [] two_columns sum_items (2 ∷ []) }
+    ensures not_typed { ¬ (AreRoots (is_settled [] []) [] [] a_items (0 ∷ [])) }
+    ensures ends_typed { EndsTyped (is_settled [] []) (HasSameWritten [] []) [] [] (Literal (Int32 (pos 5)) ∷ []) 0 five }
+    ensures other_type { ¬ (EndsTyped (is_settled [] []) (HasSameWritten [] []) [] [] (Literal (Int8 (pos 5)) ∷ []) 0 five) }
+    ensures ends_settled { EndsSettled (is_settled [] []) (HasSameWritten [] []) [] [] (Literal (Int (pos 5)) ∷ []) (Literal (Int32 (pos 5)) ∷ []) 0 }
+    ensures ends_with_other_type { ¬ (EndsSettled (is_settled [] []) (HasSameWritten [] []) [] [] (Literal (Int (pos 5)) ∷ []) (Literal (Int8 (pos 5)) ∷ []) 0) }
+    ensures typed_alone { TypesNumber (is_settled [] []) (HasSameWritten [] []) [] [] (Literal (Int (pos 5)) ∷ []) (Literal (Int32 (pos 5)) ∷ []) (0 ∷ []) }
+    ensures left_alone { ¬ (TypesNumber (is_settled [] []) (HasSameWritten [] []) [] [] (Literal (Int (pos 5)) ∷ []) (Literal (Int (pos 5)) ∷ []) (0 ∷ [])) }
+    ensures beside { StaysLikeBeside (HasSameWritten [] []) [] [] (Literal (Int (pos 5)) ∷ []) (Literal (Int32 (pos 5)) ∷ []) (0 ∷ []) }
+    ensures no_root { ¬ (StaysLikeBeside (HasSameWritten [] []) [] [] (Literal (Int (pos 5)) ∷ []) (Literal (Int32 (pos 5)) ∷ []) []) }
+    ensures without_a_type { ¬ (EndsTyped (is_settled [] []) (HasSameWritten [] []) [] [] (Literal (Int (pos 5)) ∷ []) 0 five) }
 {}
 
 /// What a node denotes that is typed stays, whatever else is stacked: a column that isn't there may become anything. A number
 /// without a type may get one where it is a root, and the rule calls no node over such a number settled.
 pub fn nodes_beside_other_roots()
-    ensures not_typed { StaysLikeTyped (said (is_strict_node [] []) [] []) (HasSameCasts [] []) (Some 1) [] [] a_items (Literal (Int32 (pos 5)) ∷ []) (0 ∷ []) }
-    ensures typed { ¬ (StaysLikeTyped (said (is_strict_node [] two_columns) [] two_columns) (HasSameCasts [] two_columns) (Some 1) [] two_columns a_items (Literal (Int32 (pos 5)) ∷ []) []) }
-    ensures number { StaysLikeTyped (said (is_strict_node [] []) [] []) (HasSameCasts [] []) (Some 1) [] [] (Literal (Int (pos 5)) ∷ []) (Literal (Int32 (pos 5)) ∷ []) (0 ∷ []) }
-    ensures number_of_another_rule { ¬ (StaysLikeTyped (λ t. true) (HasSameCasts [] []) (Some 1) [] [] (Literal (Int (pos 5)) ∷ []) (Literal (Int32 (pos 5)) ∷ []) (0 ∷ [])) }
-    ensures leads { ¬ (LeadsToNoNumber (said (is_strict_node [] []) [] []) (Some 1) [] [] (Literal (Int (pos 5)) ∷ []) (0 ∷ []) 0) }
-    ensures without_turns { ¬ (LeadsToNoNumber (said (is_strict_node [] []) [] []) None [] [] (Literal (Int (pos 5)) ∷ []) (0 ∷ []) 1) }
-    ensures no_root { LeadsToNoNumber (said (is_strict_node [] []) [] []) None [] [] (Literal (Int (pos 5)) ∷ []) [] 0 }
+    ensures not_typed { StaysLikeTyped (is_settled [] []) (HasSameWritten [] []) (Some 1) [] [] a_items (Literal (Int32 (pos 5)) ∷ []) (0 ∷ []) }
+    ensures typed { ¬ (StaysLikeTyped (is_settled [] two_columns) (HasSameWritten [] two_columns) (Some 1) [] two_columns a_items (Literal (Int32 (pos 5)) ∷ []) []) }
+    ensures number { StaysLikeTyped (is_settled [] []) (HasSameWritten [] []) (Some 1) [] [] (Literal (Int (pos 5)) ∷ []) (Literal (Int32 (pos 5)) ∷ []) (0 ∷ []) }
+    ensures number_of_another_rule { ¬ (StaysLikeTyped (λ t. true) (HasSameWritten [] []) (Some 1) [] [] (Literal (Int (pos 5)) ∷ []) (Literal (Int32 (pos 5)) ∷ []) (0 ∷ [])) }
+    ensures leads { ¬ (LeadsToNoNumber (is_settled [] []) (Some 1) [] [] (Literal (Int (pos 5)) ∷ []) (0 ∷ []) 0) }
+    ensures without_turns { ¬ (LeadsToNoNumber (is_settled [] []) None [] [] (Literal (Int (pos 5)) ∷ []) (0 ∷ []) 1) }
+    ensures no_root { LeadsToNoNumber (is_settled [] []) None [] [] (Literal (Int (pos 5)) ∷ []) [] 0 }
 {}
 
 /// Coercion is refused as an expression's typing is, or as out of memory, and over typed roots for that alone, or
 /// over numbers that stand apart.
 pub fn refusals_of_coercion()
-    ensures no_such_column { IsCoercionRefusal (said (is_strict_node [] []) [] []) (Some 1) [] [] a_items a_items (0 ∷ []) (at_top ColumnNotFound) }
-    ensures memory { IsCoercionRefusal (said (is_strict_node [] two_columns) [] two_columns) (Some 1) [] two_columns sum_items sum_items (2 ∷ []) no_memory }
-    ensures other_kind { ¬ (IsCoercionRefusal (said (is_strict_node [] []) [] []) (Some 1) [] [] a_items a_items (0 ∷ []) (at_top InvalidOperation)) }
-    ensures over_a_number { ¬ (IsCoercionRefusal (said (is_strict_node [] []) [] []) (Some 1) [] [] (Literal (Int (pos 5)) ∷ []) (Literal (Int (pos 5)) ∷ []) (0 ∷ []) (at_top ColumnNotFound)) }
-    ensures at_a_place { ¬ (IsCoercionRefusal (said (is_strict_node [] []) [] []) (Some 1) [] [] a_items a_items (0 ∷ []) (refused ColumnNotFound (0 ∷ []))) }
-    ensures over_typed_roots { ¬ (IsCoercionRefusal (said (is_strict_node [] two_columns) [] two_columns) (Some 1) [] two_columns sum_items sum_items (2 ∷ []) (at_top ColumnNotFound)) }
+    ensures no_such_column { IsCoercionRefusal (is_settled [] []) (Some 1) [] [] a_items a_items (0 ∷ []) (at_top ColumnNotFound) }
+    ensures memory { IsCoercionRefusal (is_settled [] two_columns) (Some 1) [] two_columns sum_items sum_items (2 ∷ []) no_memory }
+    ensures other_kind { ¬ (IsCoercionRefusal (is_settled [] []) (Some 1) [] [] a_items a_items (0 ∷ []) (at_top InvalidOperation)) }
+    ensures over_a_number { ¬ (IsCoercionRefusal (is_settled [] []) (Some 1) [] [] (Literal (Int (pos 5)) ∷ []) (Literal (Int (pos 5)) ∷ []) (0 ∷ []) (at_top ColumnNotFound)) }
+    ensures at_a_place { ¬ (IsCoercionRefusal (is_settled [] []) (Some 1) [] [] a_items a_items (0 ∷ []) (refused ColumnNotFound (0 ∷ []))) }
+    ensures over_typed_roots { ¬ (IsCoercionRefusal (is_settled [] two_columns) (Some 1) [] two_columns sum_items sum_items (2 ∷ []) (at_top ColumnNotFound)) }
 {}
 
 /// Trees stay finite where an arena grows, and not where a node becomes its own input.
@@ -150,8 +150,8 @@ pub fn roots_that_are_apart()
 /// The sum over a cast is put in place of the sum, which has its name, type and meaning. The sum itself isn't, nor one the
 /// other way round.
 pub fn sums_that_are_put_in_place()
-    ensures replacement { IsReplacement (HasSameCasts [] two_columns) (said (until_strict [] two_columns) [] two_columns) [] two_columns sum_items strict_items 2 sum }
-    ensures other_name { ¬ (IsReplacement (HasSameCasts [] two_columns) (said (until_strict [] two_columns) [] two_columns) [] two_columns sum_items (columns_and (pair 1 Plus 3 ∷ cast_of 0 dtype.Int32 ∷ [])) 2 sum) }
+    ensures replacement { IsReplacement (HasSameWritten [] two_columns) (until_settled [] two_columns) [] two_columns sum_items strict_items 2 sum }
+    ensures other_name { ¬ (IsReplacement (HasSameWritten [] two_columns) (until_settled [] two_columns) [] two_columns sum_items (columns_and (pair 1 Plus 3 ∷ cast_of 0 dtype.Int32 ∷ [])) 2 sum) }
     ensures placed { IsSumPlaced sum_items strict_items 2 }
     ensures unchanged { ¬ (IsSumPlaced sum_items sum_items 2) }
     ensures found { IsSumFound strict_items strict_items 2 }
@@ -301,15 +301,15 @@ pub fn operands_that_are_changed()
     ensures one_left_out { (table : TypeTable) → ¬ (AreChanged a_items a_items table (0 ∷ []) [] []) }
 {}
 
-/// An expression is like one of its type, name and meaning to which it is related. Nodes have the same casts where their
-/// children are so alike, but no node over a column is that column. Strict nodes stay so over such children, but whole
+/// An expression is like one of its type, name and meaning to which it is related. Nodes are one, written out, where their
+/// children are so alike, but no node over a column is that column. Settled nodes stay so over such children, but strict
 /// expressions don't.
 pub fn expressions_that_are_alike()
-    ensures cast { IsLike (HasSameCasts [] two_columns) [] two_columns sum strict_sum }
+    ensures cast { IsLike (HasSameWritten [] two_columns) [] two_columns sum strict_sum }
     ensures unrelated { ¬ (IsLike (λ before after. ⊥) [] two_columns sum strict_sum) }
     ensures other_name { ¬ (IsLike (λ before after. Unit) [] two_columns a b) }
-    ensures same_casts { IsCongruent (HasSameCasts [] two_columns) [] two_columns }
+    ensures same_written { IsCongruent (HasSameWritten [] two_columns) [] two_columns }
     ensures one_column_alone { ¬ (IsCongruent (λ before after. after ≡ a) [] two_columns) }
-    ensures strict_nodes { IsSteady (said (is_strict_node [] two_columns) [] two_columns) (HasSameCasts [] two_columns) [] two_columns }
-    ensures strict_throughout { ¬ (IsSteady (is_strict [] two_columns) (HasSameCasts [] two_columns) [] two_columns) }
+    ensures settled_nodes { IsSteady (is_settled [] two_columns) (HasSameWritten [] two_columns) [] two_columns }
+    ensures strict_throughout { ¬ (IsSteady (is_strict [] two_columns) (HasSameWritten [] two_columns) [] two_columns) }
 {}

@@ -64,7 +64,7 @@ returns-in_ok-alias-in-Some-clause-added t c = λ registry schema start le right
     let before' = made.ensures.added registry schema start le right before in
     let within = kept_within mid c.number_under.new.types made.made.0 (record { registry = registry; schema = schema; right = right' }) made.ensures.kept in
     let strict = before' made.made.0 (omega (arith, le, made.ensures.fresh)) within in
-    c.in_ok-alias-in-Some.ensures.added registry schema start (omega (arith, le, length-grown c.args.arena.now mid made.ensures.grows)) right' strict before'
+    c.in_ok-alias-in-Some.ensures.added registry schema start (omega (arith, le, length-grown c.args.arena.now mid made.ensures.grows)) right' strict.0 before'
 
 pub returns-in_ok-alias-in-Some-clause-once : goal.returns-in_ok-alias-in-Some-clause-once
 returns-in_ok-alias-in-Some-clause-once t c =

@@ -32,7 +32,7 @@ pub returns-clause-added : goal.returns-clause-added
 returns-clause-added c = λ registry schema start le right input before.
     let same = keeps_one c.args.types.now c.args.input.0 c.get-from.result.now input.own c.get-from.ensures input.keeps in
     let known = ap is_known c.in_ok-dtype.ensures.ok ∙ ap (λ (x : Inferred). is_known (ty x.dtype)) same ∙ input.known in
-    strict_added registry schema start c.args.arena.now c.add.new.self _ c.args.types.now c.keep.new.self c.in_ok-alias.alias.0 _ right c.in_ok-alias.ensures.ok c.in_ok-alias.ensures.node c.none.ensures known c.in_ok-keep.ensures.kept c.in_ok-keep.ensures.stays c.in_ok-keep.ensures.only before
+    strict_added registry schema start c.args.arena.now c.add.new.self _ c.args.types.now c.keep.new.self c.in_ok-alias.alias.0 _ right c.in_ok-alias.ensures.ok c.in_ok-alias.ensures.node c.none.ensures known (λ target options k is. cc) c.in_ok-keep.ensures.kept c.in_ok-keep.ensures.stays c.in_ok-keep.ensures.only before
 
 pub returns-clause-once : goal.returns-clause-once
 returns-clause-once c = put_once c.args.arena.now c.add.new.self (Alias c.args.input c.args.name) _ c.args.input.0 c.in_ok-alias.alias.0 c.in_ok-alias.ensures.ok c.in_ok-alias.ensures.node refl

@@ -20,7 +20,7 @@ returns-clause-closed c = λ start roots closed.
 
 pub returns-clause-added : goal.returns-clause-added
 returns-clause-added c = λ registry schema start le right known before.
-    strict_added registry schema start c.args.arena.now c.add.new.self _ c.args.types.now c.keep.new.self c.in_ok-literal.literal.0 _ right c.in_ok-literal.ensures.ok c.in_ok-literal.ensures.node c.none.ensures known c.in_ok-keep.ensures.kept c.in_ok-keep.ensures.stays c.in_ok-keep.ensures.only before
+    strict_added registry schema start c.args.arena.now c.add.new.self _ c.args.types.now c.keep.new.self c.in_ok-literal.literal.0 _ right c.in_ok-literal.ensures.ok c.in_ok-literal.ensures.node c.none.ensures known (λ target options k is. cc) c.in_ok-keep.ensures.kept c.in_ok-keep.ensures.stays c.in_ok-keep.ensures.only before
 
 pub returns-clause-once : goal.returns-clause-once
 returns-clause-once c = new_once c.args.arena.now c.add.new.self (Literal c.args.value) _ c.in_ok-literal.literal.0 c.in_ok-literal.ensures.ok c.in_ok-literal.ensures.node refl

@@ -9,13 +9,13 @@ use Rattle.plan_dsl.specs.Literals.{literal_op, settled_type}
 use Rattle.plan_dsl.specs.Ops.{LiteralOp}
 use Rattle.plan_dsl.specs.Strictness.{number_literal}
 use Rattle.plan_dsl.specs.Trees.{node, no_more}
-use Rattle.plan_types.specs.Types.{Untyped, is_known, ty}
+use Rattle.plan_types.specs.Types.{Untyped, is_known, same_type, ty}
 use Rattle.plan_types.proofs.CommonLemmas.{literal_has}
 use Rattle.plan_arena.proofs.DenotationLemmas.{some_same}
 use Rattle.plan_arena.proofs.ItemLemmas.{any_node, length-grown}
 use Rattle.plan_infer.proofs.TableLemmas.{extends_then, type_of}
 use Rattle.plan_coerce.proofs.CoercionLemmas.{literal_is, own_literal}
-use Rattle.plan_coerce.proofs.RightLemmas.{literal_kept}
+use Rattle.plan_coerce.proofs.RightLemmas.{lacks_apart, literal_kept}
 use Rattle.plan_coerce.proofs.type_coercion.add_number_cast.Goals as goal
 
 pub returns-clause-denotes : goal.returns-clause-denotes
@@ -52,7 +52,7 @@ returns-clause-extends c =
     extends_then c.args.types.now c.add_literal.new.types c.add_cast.new.types c.in_ok-literal.ensures.extends c.in_ok-cast.ensures.extends
 
 pub returns-clause-added : goal.returns-clause-added
-returns-clause-added c = λ registry schema start le right known before.
+returns-clause-added c = λ registry schema start le right known lacks before.
     let mid = c.add_literal.new.arena in
     let literal = c.in_ok-literal in
     let own = ty c.in-Some.own in
@@ -62,7 +62,11 @@ returns-clause-added c = λ registry schema start le right known before.
     let is = literal_is own c.in-Some-of_number.value c.args.number has.1 has.0 (c.in-Some-of_number.ensures.literal ∙ ap (λ m. LiteralOp own (IntValue m)) trip) in
     let right' = literal.ensures.right registry schema is.0 is.1 right in
     let before' = literal.ensures.added registry schema start le right has.1 before in
-    c.in_ok-cast.ensures.added registry schema start (omega (arith, le, length-grown c.args.arena.now mid literal.ensures.grows)) right' known before'
+    let k = literal.ensures.kept in
+    let there = any_node 0 mid literal.literal.0 (node (literal_op c.in-Some-of_number.value) no_more) (literal.ensures.denotes 0 zero-le) in
+    let from : ty k.own.dtype ≡ own = literal_kept registry schema mid c.add_literal.new.types literal.literal.0 c.in-Some-of_number.value k there is.1 right' ∙ sym is.0 in
+    let apart = ap (λ t. same_type t (ty c.args.target)) from ∙ lacks_apart c.args.number own (ty c.args.target) alone lacks in
+    c.in_ok-cast.ensures.added registry schema start k.own (omega (arith, le, length-grown c.args.arena.now mid literal.ensures.grows)) right' known k.keeps apart before'
 
 pub returns-clause-once : goal.returns-clause-once
 returns-clause-once c =

@@ -30,4 +30,4 @@ returns-in_ok-literal-in-Some-clause-added c = λ registry schema start le right
 
 pub returns-in_ok-cast-in-None-clause-added : goal.returns-in_ok-cast-in-None-clause-added
 returns-in_ok-cast-in-None-clause-added c = λ registry schema start le right before.
-    c.in_ok-cast-in-None.ensures.added registry schema start le right c.requires.becomes.known before
+    c.in_ok-cast-in-None.ensures.added registry schema start le right c.requires.becomes.known (sym c.in-None.ensures.has) before

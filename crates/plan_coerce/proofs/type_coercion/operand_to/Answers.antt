@@ -71,7 +71,7 @@ returns-in_ok-made-in-None-clause-added c = λ registry schema start le right be
     let apart = sym c.is_same.ensures ∙ c.if-is_same.false in
     let copied = c.in_ok-target-in-None.ensures.ok in
     let can = ready_becomes types c.args.input.0 c.get.result.now.operands c.args.index from0.dtype c.operand-target.result.now (ty c.in_ok-target-in-None.target) at c.operand-target.ensures copied is0 apart in
-    c.in_ok-made-in-None.ensures.added registry schema start le right can.known before
+    c.in_ok-made-in-None.ensures.added registry schema start from0 le right can.known c.get-from.ensures (ap (same_type (ty from0.dtype)) copied ∙ apart) before
 
 pub returns-in_ok-made-in-None-clause-closed : goal.returns-in_ok-made-in-None-clause-closed
 returns-in_ok-made-in-None-clause-closed c = λ start roots le near closed. c.in_ok-made-in-None.ensures.closed start roots near closed

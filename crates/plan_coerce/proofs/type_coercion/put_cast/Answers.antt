@@ -1,5 +1,5 @@
 use Rattle.plan_coerce.proofs.OnceLemmas.{put_once}
-use Rattle.plan_coerce.proofs.RightLemmas.{strict_added}
+use Rattle.plan_coerce.proofs.RightLemmas.{cast_changes, strict_added}
 use Rattle.std.proofs.Common.{[], ◌∷◌, refl, sym, ap, ◌∙◌}
 use Rattle.plan_types.specs.Casts.{can_cast}
 use Rattle.plan_types.specs.Types.{is_known, ty}
@@ -32,8 +32,8 @@ returns-clause-closed c = λ start roots near closed.
     closed_added start roots c.args.arena.now c.add.new.self item _ (c.args.input.0 ∷ []) c.in_ok-cast.ensures.ok refl (near, tt) closed
 
 pub returns-clause-added : goal.returns-clause-added
-returns-clause-added c = λ registry schema start le right known before.
-    strict_added registry schema start c.args.arena.now c.add.new.self _ c.args.types.now c.keep.new.self c.in_ok-cast.cast.0 _ right c.in_ok-cast.ensures.ok c.in_ok-cast.ensures.node c.requires.5 (ap is_known c.requires.2 ∙ known) c.in_ok-keep.ensures.kept c.in_ok-keep.ensures.stays c.in_ok-keep.ensures.only before
+returns-clause-added c = λ registry schema start from le right known keeps apart before.
+    strict_added registry schema start c.args.arena.now c.add.new.self _ c.args.types.now c.keep.new.self c.in_ok-cast.cast.0 _ right c.in_ok-cast.ensures.ok c.in_ok-cast.ensures.node c.requires.5 (ap is_known c.requires.2 ∙ known) (cast_changes c.args.types.now c.args.input.0 (ty c.args.target) NonStrict from keeps apart) c.in_ok-keep.ensures.kept c.in_ok-keep.ensures.stays c.in_ok-keep.ensures.only before
 
 pub returns-clause-once : goal.returns-clause-once
 returns-clause-once c = put_once c.args.arena.now c.add.new.self (Cast c.args.input c.args.target NonStrict) _ c.args.input.0 c.in_ok-cast.cast.0 c.in_ok-cast.ensures.ok c.in_ok-cast.ensures.node refl

@@ -1,32 +1,42 @@
-use Rattle.std.proofs.Common.{subst, sym}
+use Rattle.std.proofs.Common.{subst, sym, ◌∙◌}
+use Rattle.std.proofs.lemmas.Bool.{and_from}
 use Rattle.plan_types.specs.Schemas.{columns}
 use Rattle.plan_dsl.specs.Registry.{registry}
+use Rattle.plan_arena.proofs.ItemLemmas.{tree_within}
 use Rattle.plan_infer.specs.KeptTypes.{Extends}
 use Rattle.plan_infer.proofs.TableLemmas.{extends_itself, right_start}
-use Rattle.plan_coerce.proofs.CoercionRuleLemmas.{item_there, known_not_number, kept_strict}
-use Rattle.plan_coerce.proofs.SettledLemmas.{settles_no_number}
+use Rattle.plan_coerce.specs.Coercion.{coerced}
+use Rattle.plan_coerce.specs.InlinedCasts.{stays}
+use Rattle.plan_coerce.specs.Rules.{is_strict_node, said}
+use Rattle.plan_coerce.proofs.CoercionRuleLemmas.{known_not_number, kept_strict}
+use Rattle.plan_coerce.proofs.SettledLemmas.{settled_no_number}
+use Rattle.plan_coerce.proofs.ToldLemmas.{not_cast_stays}
 use Rattle.plan_coerce.proofs.coercion_rule.TypeCoercionRuleOptimizationRule.optimize_expr.Goals as goal
 
 pub returns-in-Ok-clause-numbers : goal.returns-in-Ok-clause-numbers
-returns-in-Ok-clause-numbers g c = λ t typed some d is unknown. settles_no_number (registry c.args.udfs.now) (columns c.args.schema.now)
+returns-in-Ok-clause-numbers g c = λ t typed some d is unknown. settled_no_number (registry c.args.udfs.now) (columns c.args.schema.now)
 
 pub returns-in-Err-clause-right : goal.returns-in-Err-clause-right
 returns-in-Err-clause-right g c =
-    right_start (registry c.args.udfs.now) (columns c.args.schema.now) c.item_for.new.arena c.clear.new.self c.clear.ensures
+    right_start (registry c.args.udfs.now) (columns c.args.schema.now) c.replacement.new.arena c.clear.new.self c.clear.ensures
 
-pub returns-then-is_settled-clause-answer : goal.returns-then-is_settled-clause-answer
-returns-then-is_settled-clause-answer g c = λ t d.
+pub get-requires : goal.get-requires
+get-requires g c = tree_within c.args.expr_arena.now c.args.node.0 c.requires.tree
+
+pub returns-then-not-is_cast-clause-answer : goal.returns-then-not-is_cast-clause-answer
+returns-then-not-is_cast-clause-answer g c = λ t d.
     let registry = registry c.args.udfs.now in
     let schema = columns c.args.schema.now in
     let items = c.args.expr_arena.now in
     let types = c.args.types.now in
+    let n = c.args.node.0 in
     let kept = c.is_settled.ensures.kept c.if-is_settled.true in
-    let known = known_not_number registry schema items types c.requires.right c.args.node.0 kept.0 kept.1 kept.3 in
-    let item = item_there items c.args.node.0 t d in
-    kept_strict registry schema items types c.requires.right c.args.node.0 kept.0 kept.1 item.0 item.1 kept.2 known t d
+    let known = known_not_number registry schema items types c.requires.right n kept.0 kept.1 kept.3 in
+    let strict = kept_strict registry schema items types c.requires.right n kept.0 kept.1 c.get.result.now c.get.ensures kept.2 known t d in
+    and_from (said (is_strict_node registry schema) registry schema t) (stays (coerced registry schema t)) strict (not_cast_stays registry schema items n c.get.result.now c.get.ensures (sym c.is_cast.ensures ∙ c.if-not-is_cast.true) t d)
 
-pub returns-then-is_settled-clause-kept : goal.returns-then-is_settled-clause-kept
-returns-then-is_settled-clause-kept g c = λ none. extends_itself c.args.types.now
+pub returns-then-not-is_cast-clause-kept : goal.returns-then-not-is_cast-clause-kept
+returns-then-not-is_cast-clause-kept g c = λ none. extends_itself c.args.types.now
 
 pub returns-in-Ok-clause-kept : goal.returns-in-Ok-clause-kept
 returns-in-Ok-clause-kept g c = λ none. subst (Extends c.args.types.now) (sym (c.in-Ok.ensures.table none)) c.infer_once.ensures.extends

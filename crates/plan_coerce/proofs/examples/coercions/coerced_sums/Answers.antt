@@ -1,6 +1,8 @@
-use Rattle.std.proofs.Common.{◌≡◌, ◌≤◌, ℕ, zero, suc, List, [], ◌∷◌, pos, codes, true, false, Some, slice_get, refl, sym, ap, subst, arith}
+use Rattle.std.proofs.Common.{◌≡◌, ◌≤◌, ℕ, zero, suc, List, [], ◌∷◌, pos, codes, true, false, Some, slice_get, refl, sym, ap, subst, arith, zero-le}
 use Rattle.plan_types.specs.Types.{Untyped, same_type}
-use Rattle.plan_types.specs.Schemas.{Name}
+use Rattle.plan_types.specs.Schemas.{Columns, Name}
+use Rattle.plan_dsl.specs.Registry.{Registry}
+use Rattle.plan_dsl.specs.Strictness.{IsSame, IsStrict}
 use Rattle.plan_types.specs.Values.{IntValue}
 use Rattle.plan_types.specs.declared.dtype.DataType.TheVariants as dtype
 use Rattle.plan_dsl.specs.declared.literal.LiteralValue.TheVariants.{Int}
@@ -15,11 +17,11 @@ use Rattle.plan_arena.specs.Denotation.{Denotes}
 use Rattle.plan_arena.specs.Layers.{layer}
 use Rattle.plan_arena.specs.Items.{HoldsExpression}
 use Rattle.plan_arena.proofs.ItemLemmas.{got_held}
-use Rattle.plan_coerce.specs.Optimizer.{DenotesLike}
-use Rattle.plan_coerce.specs.Rules.{HasSameCasts}
+use Rattle.plan_coerce.specs.Optimizer.{DenotesLike, IsWrittenOut}
+use Rattle.plan_coerce.specs.Rules.{HasSameWritten}
 use Rattle.plan_infer.specs.Samples.{int8, int32, int64, columns_of, two_columns, of_type, a, b, binary, cast_to, sum, pair, columns_and, sum_items}
 use Rattle.plan_coerce.specs.Samples.{strict_sum, cast_of, strict_items}
-use Rattle.plan_coerce.proofs.ExampleLemmas.{one_denoted, strict_root, same_tree, other_name, other_label}
+use Rattle.plan_coerce.proofs.ExampleLemmas.{one_denoted, same_tree, other_name, other_label}
 use Rattle.plan_coerce.proofs.examples.coercions.coerced_sums.Goals as goal
 
 abbrev wide : List AExpr
@@ -50,33 +52,41 @@ no_node : (n : ℕ) (t : Expression) → Denotes (HoldsExpression sum_items) (su
 no_node n (node op ts) d = no_item n _ d.1
 
 -- the columns stay, and the sum becomes one that says the same
-kept : (n : ℕ) (t : Expression) → Denotes (HoldsExpression sum_items) n t → DenotesLike (HasSameCasts [] two_columns) [] two_columns strict_items n t
-kept zero t d = subst (DenotesLike (HasSameCasts [] two_columns) [] two_columns strict_items 0) (sym (one_denoted sum_items 0 t a d (column_denotes sum_items 0 (codes "a") refl)))
+kept : (n : ℕ) (t : Expression) → Denotes (HoldsExpression sum_items) n t → DenotesLike (HasSameWritten [] two_columns) [] two_columns strict_items n t
+kept zero t d = subst (DenotesLike (HasSameWritten [] two_columns) [] two_columns strict_items 0) (sym (one_denoted sum_items 0 t a d (column_denotes sum_items 0 (codes "a") refl)))
     (record { tree = a; denotes = column_denotes strict_items 0 (codes "a") refl; like = record { same = record { typing = refl; name = refl; meaning = λ rows is. refl }; relates = refl } })
-kept (suc zero) t d = subst (DenotesLike (HasSameCasts [] two_columns) [] two_columns strict_items 1) (sym (one_denoted sum_items 1 t b d (column_denotes sum_items 1 (codes "b") refl)))
+kept (suc zero) t d = subst (DenotesLike (HasSameWritten [] two_columns) [] two_columns strict_items 1) (sym (one_denoted sum_items 1 t b d (column_denotes sum_items 1 (codes "b") refl)))
     (record { tree = b; denotes = column_denotes strict_items 1 (codes "b") refl; like = record { same = record { typing = refl; name = refl; meaning = λ rows is. refl }; relates = refl } })
-kept (suc (suc zero)) t d = subst (DenotesLike (HasSameCasts [] two_columns) [] two_columns strict_items 2) (sym (one_denoted sum_items 2 t sum d before_denotes))
+kept (suc (suc zero)) t d = subst (DenotesLike (HasSameWritten [] two_columns) [] two_columns strict_items 2) (sym (one_denoted sum_items 2 t sum d before_denotes))
     (record { tree = strict_sum; denotes = after_denotes; like = record { same = record { typing = refl; name = refl; meaning = λ rows is. refl }; relates = refl } })
 kept (suc (suc (suc n))) t d = absurd (no_node n t d)
 
 pub returns-clause-cast : goal.returns-clause-cast
 returns-clause-cast c = record {
-  below = λ n op inputs absent h. absurd (absent (omega arith));
-  trees = kept;
-  strict = ((strict_sum, after_denotes, refl), tt);
+  below = λ n op inputs lower held. absurd (lower zero-le);
+  each = (
+    λ t d. subst (IsWrittenOut [] two_columns strict_items 2) (sym (one_denoted sum_items 2 t sum d before_denotes))
+        (record { tree = strict_sum; denotes = after_denotes; same = record { typing = refl; name = refl; meaning = λ rows. refl }; strict = refl; is = refl }),
+    tt,
+  );
 }
+
+-- what a root denotes, written out
+strict_root : (registry : Registry) (schema : Columns) (items : List AExpr) (n : ℕ) (before tree : Expression) → IsWrittenOut registry schema items n before → Denotes (HoldsExpression items) n tree → IsStrict registry schema tree
+strict_root registry schema items n before tree root d = subst (IsStrict registry schema) (one_denoted items n root.tree tree root.denotes d) root.strict
+
+same_root : (registry : Registry) (schema : Columns) (items : List AExpr) (n : ℕ) (before tree : Expression) → IsWrittenOut registry schema items n before → Denotes (HoldsExpression items) n tree → IsSame registry schema before tree
+same_root registry schema items n before tree root d = subst (IsSame registry schema before) (one_denoted items n root.tree tree root.denotes d) root.same
 
 pub returns-clause-unchanged : goal.returns-clause-unchanged
 returns-clause-unchanged c = λ coerced.
-    let type = int32 in
-    let strict = strict_root [] two_columns sum_items 2 sum coerced.strict.0 before_denotes in
-    let same : false ≡ true = strict in
+    let same : false ≡ true = strict_root [] two_columns sum_items 2 sum sum (coerced.each.0 sum before_denotes) before_denotes in
     cc
 
 pub returns-clause-both_to_another_type : goal.returns-clause-both_to_another_type
 returns-clause-both_to_another_type c = λ coerced.
     let tree = binary Plus (cast_to int64 a) (cast_to int64 b) in
-    let same = same_tree (HasSameCasts [] two_columns) [] two_columns wide 2 sum tree (coerced.trees 2 sum before_denotes) wide_denotes in
+    let same = same_root [] two_columns wide 2 sum tree (coerced.each.0 sum before_denotes) wide_denotes in
     let one = ok_same (typing [] two_columns tree) (of_type int64) (of_type int32) refl same.typing in
     let differs : true ≡ false = ap (λ t. same_type int64 t.type) one in
     cc
@@ -84,13 +94,13 @@ returns-clause-both_to_another_type c = λ coerced.
 -- the sum has the name of the other column
 pub returns-clause-turned_round : goal.returns-clause-turned_round
 returns-clause-turned_round c = λ coerced.
-    other_label (same_tree (HasSameCasts [] two_columns) [] two_columns turned 2 sum (binary Plus b (cast_to int32 a)) (coerced.trees 2 sum before_denotes) turned_denotes).name
+    other_label (same_root [] two_columns turned 2 sum (binary Plus b (cast_to int32 a)) (coerced.each.0 sum before_denotes) turned_denotes).name
 
 pub returns-clause-number_left : goal.returns-clause-number_left
 returns-clause-number_left c = λ coerced.
-    let op = LiteralOp (Untyped (pos 5)) (IntValue (pos 5)) in
-    let strict = strict_root [] [] (Literal (Int (pos 5)) ∷ []) 0 (node op no_more) coerced.strict.0 ([], refl, tt) in
-    let known : false ≡ true = strict in
+    let items = Literal (Int (pos 5)) ∷ [] in
+    let number = node (LiteralOp (Untyped (pos 5)) (IntValue (pos 5))) no_more in
+    let known : false ≡ true = strict_root [] [] items 0 number number (coerced.each.0 number ([], refl, tt)) ([], refl, tt) in
     cc
 
 column_name : (m n : Name) → Some (layer (ColumnOp m) []) ≡ Some (layer (ColumnOp n) []) → m ≡ n
@@ -105,7 +115,7 @@ returns-clause-nothing_done c = λ n t d. record { tree = t; denotes = d; like =
 
 pub returns-clause-other_tree : goal.returns-clause-other_tree
 returns-clause-other_tree c = λ stays.
-    other_label (same_tree (HasSameCasts [] (columns_of int8 int8)) [] (columns_of int8 int8) (Column (codes "b") ∷ []) 0 a b (stays 0 a ([], refl, tt)) ([], refl, tt)).name
+    other_label (same_tree (HasSameWritten [] (columns_of int8 int8)) [] (columns_of int8 int8) (Column (codes "b") ∷ []) 0 a b (stays 0 a ([], refl, tt)) ([], refl, tt)).name
 
 kept_first : (n : ℕ) (op : Op) (inputs : List ℕ) → ¬ (1 ≤ n) → HoldsExpression (columns_and []) n op inputs → HoldsExpression (Column (codes "a") ∷ Column (codes "c") ∷ []) n op inputs
 kept_first zero op inputs below h = h
@@ -119,4 +129,4 @@ returns-clause-same c = record { tree = a; denotes = ([], refl, tt); like = reco
 
 pub returns-clause-not_same : goal.returns-clause-not_same
 returns-clause-not_same c = λ found.
-    other_label (same_tree (HasSameCasts [] (columns_of int8 int8)) [] (columns_of int8 int8) (Column (codes "b") ∷ []) 0 a b found ([], refl, tt)).name
+    other_label (same_tree (HasSameWritten [] (columns_of int8 int8)) [] (columns_of int8 int8) (Column (codes "b") ∷ []) 0 a b found ([], refl, tt)).name

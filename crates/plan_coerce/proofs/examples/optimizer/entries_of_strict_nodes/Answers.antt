@@ -1,10 +1,14 @@
-use Rattle.std.proofs.Common.{◌≡◌, List, [], ◌∷◌, pos, true, false, Some, None, refl, sym, ap, ◌∙◌, subst, arith}
-use Rattle.plan_types.specs.Types.{Untyped, is_known, ty}
+use Rattle.std.proofs.Common.{◌≡◌, ℕ, List, [], ◌∷◌, pos, true, false, Some, None, refl, sym, ap, ◌∙◌, subst, arith}
+use Rattle.plan_types.specs.Types.{Ty, Untyped, is_known, ty}
+use Rattle.plan_types.specs.declared.dtype.CastOptions.{CastOptions}
 use Rattle.plan_types.specs.declared.dtype.DataType.{DataType}
 use Rattle.plan_types.specs.declared.dtype.DataType.TheVariants as dtype
 use Rattle.plan_infer.specs.declared.type_table.Inferred.{Inferred}
 use Rattle.plan_infer.specs.declared.type_table.TypeTable.{TypeTable}
 use Rattle.plan_infer.specs.KeptTypes.{KeepsEntry}
+use Rattle.plan_arena.specs.Items.{HoldsExpression}
+use Rattle.plan_dsl.specs.Ops.{CastOp}
+use Rattle.plan_infer.specs.Samples.{sum_items}
 use Rattle.plan_coerce.specs.Coercion.{KeepsStrict}
 use Rattle.plan_coerce.proofs.examples.optimizer.entries_of_strict_nodes.Goals as goal
 
@@ -43,14 +47,18 @@ returns-clause-number c = λ own n d m o table first entries strict.
 pub returns-clause-nothing_kept : goal.returns-clause-nothing_kept
 returns-clause-nothing_kept c = λ table first entries strict. none_kept table strict.own first entries strict.keeps
 
+-- the sum is no cast
+no_cast : (target : Ty) (options : CastOptions) (i : ℕ) → HoldsExpression sum_items 2 (CastOp target options) (i ∷ []) → ⊥
+no_cast target options i held = cc
+
 pub returns-clause-last : goal.returns-clause-last
 returns-clause-last c = λ own n d m o table first entries k from below.
     let place : 2 ≡ k = omega (arith, from, below) in
-    subst (KeepsStrict table) place (keeps_strict table own first entries d o)
+    (subst (KeepsStrict table) place (keeps_strict table own first entries d o), λ target options i held. absurd (no_cast target options i (subst (λ j. HoldsExpression sum_items j (CastOp target options) (i ∷ [])) (sym place) held)))
 
 pub returns-clause-those_before : goal.returns-clause-those_before
 returns-clause-those_before c = λ own n d m o table first entries all.
-    let strict = all 1 (omega arith) (omega arith) in
+    let strict = (all 1 (omega arith) (omega arith)).0 in
     omega (arith, first, strict.keeps.0)
 
 pub returns-clause-none_left : goal.returns-clause-none_left

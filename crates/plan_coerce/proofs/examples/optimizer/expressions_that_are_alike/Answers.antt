@@ -3,14 +3,13 @@ use Rattle.plan_types.specs.declared.dtype.CastOptions.TheVariants.{NonStrict}
 use Rattle.plan_dsl.specs.Ops.{CastOp}
 use Rattle.plan_dsl.specs.Trees.{no_more, more}
 use Rattle.plan_infer.specs.Samples.{int8, int32, two_columns, a, cast_to, sum}
-use Rattle.plan_coerce.specs.CoercedLaws.{same_casts_congruent}
-use Rattle.plan_coerce.specs.RuleLaws.{said_steady}
-use Rattle.plan_coerce.specs.Rules.{HasSameCasts, IsLike, is_strict_node}
+use Rattle.plan_coerce.specs.CoercedLaws.{same_written_congruent, settled_steady}
+use Rattle.plan_coerce.specs.Rules.{HasSameWritten, IsLike}
 use Rattle.plan_coerce.specs.Samples.{strict_sum}
 use Rattle.plan_coerce.proofs.ExampleLemmas.{other_label}
 use Rattle.plan_coerce.proofs.examples.optimizer.expressions_that_are_alike.Goals as goal
 
-sums_alike : IsLike (HasSameCasts [] two_columns) [] two_columns sum strict_sum
+sums_alike : IsLike (HasSameWritten [] two_columns) [] two_columns sum strict_sum
 sums_alike = record { same = record { typing = refl; name = refl; meaning = λ rows is. refl }; relates = refl }
 
 pub returns-clause-cast : goal.returns-clause-cast
@@ -22,8 +21,8 @@ returns-clause-unrelated c = λ like. like.relates
 pub returns-clause-other_name : goal.returns-clause-other_name
 returns-clause-other_name c = λ like. other_label like.same.name
 
-pub returns-clause-same_casts : goal.returns-clause-same_casts
-returns-clause-same_casts c = same_casts_congruent [] two_columns
+pub returns-clause-same_written : goal.returns-clause-same_written
+returns-clause-same_written c = same_written_congruent [] two_columns
 
 no_column : cast_to int32 a ≡ a → ⊥
 no_column e = cc
@@ -32,8 +31,8 @@ pub returns-clause-one_column_alone : goal.returns-clause-one_column_alone
 returns-clause-one_column_alone c = λ congruent.
     no_column (congruent (CastOp int32 NonStrict) (more a no_more) (more a no_more) (record { same = record { typing = refl; name = refl; meaning = λ rows is. refl }; relates = refl }, tt))
 
-pub returns-clause-strict_nodes : goal.returns-clause-strict_nodes
-returns-clause-strict_nodes c = said_steady (is_strict_node [] two_columns) (HasSameCasts [] two_columns) [] two_columns
+pub returns-clause-settled_nodes : goal.returns-clause-settled_nodes
+returns-clause-settled_nodes c = settled_steady [] two_columns
 
 pub returns-clause-strict_throughout : goal.returns-clause-strict_throughout
 returns-clause-strict_throughout c = λ steady.

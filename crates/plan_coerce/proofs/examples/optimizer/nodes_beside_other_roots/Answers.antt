@@ -6,12 +6,12 @@ use Rattle.plan_dsl.proofs.TypingLemmas.{ok_same}
 use Rattle.plan_arena.specs.declared.aexpr.AExpr.TheVariants.{Literal}
 use Rattle.plan_infer.specs.Samples.{int8, int32, two_columns, of_type, of_one, a, a_items, five, literal}
 use Rattle.plan_coerce.specs.Optimizer.{StaysLikeTyped}
-use Rattle.plan_coerce.specs.Rules.{HasSameCasts, is_strict_node, said}
+use Rattle.plan_coerce.specs.Rules.{HasSameWritten, is_settled}
 use Rattle.plan_coerce.proofs.ExampleLemmas.{any_settled, no_column_typed, no_node, number_denotes, number_items, number_root, same_tree}
-use Rattle.plan_coerce.proofs.SettledLemmas.{settles_no_number}
+use Rattle.plan_coerce.proofs.SettledLemmas.{settled_no_number}
 use Rattle.plan_coerce.proofs.examples.optimizer.nodes_beside_other_roots.Goals as goal
 
-not_typed : StaysLikeTyped (said (is_strict_node [] []) [] []) (HasSameCasts [] []) (Some 1) [] [] a_items (Literal (Int32 (pos 5)) ∷ []) (0 ∷ [])
+not_typed : StaysLikeTyped (is_settled [] []) (HasSameWritten [] []) (Some 1) [] [] a_items (Literal (Int32 (pos 5)) ∷ []) (0 ∷ [])
 not_typed zero t typed d h apart = absurd (no_column_typed t typed d h)
 not_typed (suc n) t typed d h apart = absurd (no_node a_items (suc n) t (omega arith) d)
 
@@ -21,13 +21,13 @@ returns-clause-not_typed c = not_typed
 pub returns-clause-typed : goal.returns-clause-typed
 returns-clause-typed c = λ stays.
     let now = stays 0 a (of_type int8) ([], refl, tt) refl (λ none m among. absurd among) in
-    let same = same_tree (HasSameCasts [] two_columns) [] two_columns (Literal (Int32 (pos 5)) ∷ []) 0 a (literal int32 (pos 5)) now ([], refl, tt) in
+    let same = same_tree (HasSameWritten [] two_columns) [] two_columns (Literal (Int32 (pos 5)) ∷ []) 0 a (literal int32 (pos 5)) now ([], refl, tt) in
     let types = ok_same (typing [] two_columns a) (of_type int8) (of_one int32) refl (sym same.typing) in
     let differs : true ≡ false = ap (λ (t : Typed). same_type int8 t.type) types in
     cc
 
-number : StaysLikeTyped (said (is_strict_node [] []) [] []) (HasSameCasts [] []) (Some 1) [] [] number_items (Literal (Int32 (pos 5)) ∷ []) (0 ∷ [])
-number zero t typed d h apart = absurd ((apart (settles_no_number [] []) 0 (inl refl) number_root).2 (record { steps = 0; path = inl refl }))
+number : StaysLikeTyped (is_settled [] []) (HasSameWritten [] []) (Some 1) [] [] number_items (Literal (Int32 (pos 5)) ∷ []) (0 ∷ [])
+number zero t typed d h apart = absurd ((apart (settled_no_number [] []) 0 (inl refl) number_root).2 (record { steps = 0; path = inl refl }))
 number (suc n) t typed d h apart = absurd (no_node number_items (suc n) t (omega arith) d)
 
 pub returns-clause-number : goal.returns-clause-number
@@ -36,17 +36,17 @@ returns-clause-number c = number
 pub returns-clause-number_of_another_rule : goal.returns-clause-number_of_another_rule
 returns-clause-number_of_another_rule c = λ stays.
     let now = stays 0 five (of_one (Untyped (pos 5))) number_denotes refl (λ settles m among root. absurd (any_settled settles)) in
-    let same = same_tree (HasSameCasts [] []) [] [] (Literal (Int32 (pos 5)) ∷ []) 0 five (literal int32 (pos 5)) now ([], refl, tt) in
+    let same = same_tree (HasSameWritten [] []) [] [] (Literal (Int32 (pos 5)) ∷ []) 0 five (literal int32 (pos 5)) now ([], refl, tt) in
     let types = ok_same (typing [] [] five) (of_one (Untyped (pos 5))) (of_one int32) refl (sym same.typing) in
     let known : false ≡ true = ap (λ (t : Typed). is_known t.type) types in
     cc
 
 pub returns-clause-leads : goal.returns-clause-leads
-returns-clause-leads c = λ leads. (leads (settles_no_number [] []) 0 (inl refl) number_root).2 (record { steps = 0; path = inl refl })
+returns-clause-leads c = λ leads. (leads (settled_no_number [] []) 0 (inl refl) number_root).2 (record { steps = 0; path = inl refl })
 
 pub returns-clause-without_turns : goal.returns-clause-without_turns
 returns-clause-without_turns c = λ leads.
-    let found = leads (settles_no_number [] []) 0 (inl refl) number_root in
+    let found = leads (settled_no_number [] []) 0 (inl refl) number_root in
     let some : None ≡ Some found.0 = found.1 in
     cc
 

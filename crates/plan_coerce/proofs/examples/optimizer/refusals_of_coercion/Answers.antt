@@ -9,7 +9,7 @@ use Rattle.plan_arena.specs.Denotation.{Denotes}
 use Rattle.plan_arena.specs.Items.{HoldsExpression}
 use Rattle.plan_infer.specs.Samples.{int32, of_type, a, a_items, sum, refused}
 use Rattle.plan_coerce.proofs.ExampleLemmas.{no_column_root, no_node, one_denoted, no_column_typed, number_alone, sum_denotes}
-use Rattle.plan_coerce.proofs.SettledLemmas.{settles_no_number}
+use Rattle.plan_coerce.proofs.SettledLemmas.{settled_no_number}
 use Rattle.plan_coerce.proofs.examples.optimizer.refusals_of_coercion.Goals as goal
 
 pub returns-clause-no_such_column : goal.returns-clause-no_such_column
@@ -30,7 +30,7 @@ returns-clause-over_typed_roots c = λ refusal.
     other_kind (refusal.typed (record { tree = sum; denotes = sum_denotes; typed = of_type int32; is = refl; known = λ settles. refl }, tt))
 
 pub returns-clause-over_a_number : goal.returns-clause-over_a_number
-returns-clause-over_a_number c = λ refusal. other_kind (refusal.numbers 1 refl (settles_no_number [] []) number_alone)
+returns-clause-over_a_number c = λ refusal. other_kind (refusal.numbers 1 refl (settled_no_number [] []) number_alone)
 
 no_place : (n : ℕ) (ns : List ℕ) → n ∷ ns ≡ [] → ⊥
 no_place n ns e = cc

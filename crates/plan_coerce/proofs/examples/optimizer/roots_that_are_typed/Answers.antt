@@ -7,7 +7,7 @@ use Rattle.plan_dsl.proofs.TypingLemmas.{ok_same}
 use Rattle.plan_arena.specs.declared.aexpr.AExpr.TheVariants.{Literal}
 use Rattle.plan_infer.specs.Samples.{int8, int32, of_type, of_one, a, five, sum, sum_items, a_items}
 use Rattle.plan_coerce.proofs.ExampleLemmas.{any_settled, no_node, one_denoted, sum_denotes}
-use Rattle.plan_coerce.proofs.SettledLemmas.{settles_no_number}
+use Rattle.plan_coerce.proofs.SettledLemmas.{settled_no_number}
 use Rattle.plan_coerce.proofs.examples.optimizer.roots_that_are_typed.Goals as goal
 
 pub returns-clause-sum : goal.returns-clause-sum
@@ -16,7 +16,7 @@ returns-clause-sum c = record { tree = sum; denotes = sum_denotes; typed = of_ty
 pub returns-clause-number : goal.returns-clause-number
 returns-clause-number c = λ root.
     let is = subst (λ t. typing [] [] t ≡ Ok root.typed) (one_denoted (Literal (Int (pos 5)) ∷ []) 0 root.tree five root.denotes ([], refl, tt)) root.is in
-    let known : false ≡ true = subst (λ (t : Typed). is_known t.type ≡ true) (ok_same (typing [] [] five) root.typed (of_one (Untyped (pos 5))) is refl) (root.known (settles_no_number [] [])) in
+    let known : false ≡ true = subst (λ (t : Typed). is_known t.type ≡ true) (ok_same (typing [] [] five) root.typed (of_one (Untyped (pos 5))) is refl) (root.known (settled_no_number [] [])) in
     cc
 
 pub returns-clause-number_of_another_rule : goal.returns-clause-number_of_another_rule

@@ -3,7 +3,7 @@ use Rattle.plan_types.specs.declared.dtype.DataType.TheVariants as dtype
 use Rattle.plan_dsl.specs.declared.operator.Operator.TheVariants.{Plus}
 use Rattle.plan_dsl.specs.Names.{column_label, label_of}
 use Rattle.plan_infer.specs.Samples.{sum_items, a_items, two_columns, int32, of_type, a, b, binary, cast_to, pair, columns_and, a_items}
-use Rattle.plan_coerce.specs.Rules.{said, is_strict_node}
+use Rattle.plan_coerce.specs.Rules.{is_settled}
 use Rattle.plan_coerce.specs.Samples.{cast_of, strict_items, strict_sum}
 use Rattle.plan_coerce.proofs.ExampleLemmas.{one_denoted, other_label, strict_denotes, sum_not_found, sum_not_left, sum_placed, sum_replaced}
 use Rattle.plan_coerce.proofs.examples.optimizer.sums_that_are_put_in_place.Goals as goal
@@ -26,7 +26,7 @@ returns-clause-unchanged c = sum_not_left
 pub returns-clause-found : goal.returns-clause-found
 returns-clause-found c = record {
   same = refl;
-  is = λ t d. subst (λ u. said (is_strict_node [] two_columns) [] two_columns u ≡ true) (one_denoted strict_items 2 strict_sum t strict_denotes d) refl;
+  is = λ t d. subst (λ u. is_settled [] two_columns u ≡ true) (one_denoted strict_items 2 strict_sum t strict_denotes d) refl;
 }
 
 longer_by_two : sum_items ≡ a_items → ⊥

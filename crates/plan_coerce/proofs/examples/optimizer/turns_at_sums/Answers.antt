@@ -8,7 +8,7 @@ use Rattle.plan_arena.specs.declared.aexpr.AExpr.{AExpr}
 use Rattle.plan_arena.specs.declared.aexpr.AExpr.TheVariants.{Column}
 use Rattle.plan_arena.specs.Items.{Grows, HoldsExpression}
 use Rattle.plan_infer.specs.Samples.{two_columns, int8, of_type, a, b, sum_items, a_items}
-use Rattle.plan_coerce.specs.Rules.{said, is_strict_node}
+use Rattle.plan_coerce.specs.Rules.{is_settled}
 use Rattle.plan_coerce.specs.Samples.{cast_of, strict_items, strict_sum, IsSumFound, IsSumPlaced, IsSumTurn}
 use Rattle.plan_coerce.specs.Turns.{places, finds}
 use Rattle.plan_coerce.proofs.ExampleLemmas.{one_denoted, other_label, other_name, strict_denotes, sum_not_found, sum_not_left, sum_placed}
@@ -20,7 +20,7 @@ returns-clause-places c = places sum_placed refl refl
 strict_found : IsSumFound strict_items strict_items 2
 strict_found = record {
   same = refl;
-  is = λ t d. subst (λ u. said (is_strict_node [] two_columns) [] two_columns u ≡ true) (one_denoted strict_items 2 strict_sum t strict_denotes d) refl;
+  is = λ t d. subst (λ u. is_settled [] two_columns u ≡ true) (one_denoted strict_items 2 strict_sum t strict_denotes d) refl;
 }
 
 strict_inputs : (op : Op) (inputs : List ℕ) → HoldsExpression strict_items 2 op inputs → 3 ∷ 1 ∷ [] ≡ inputs
