@@ -16,7 +16,6 @@ use crate::keys::flags;
 use plan_arena::aexpr::{AExpr, Nodes};
 use plan_arena::arena::{Arena, Node};
 use plan_arena::expr_ir::{ExprIR, OutputName};
-use plan_coerce::cast_inlining::CastInliningRule;
 use plan_coerce::coercion_rule::TypeCoercionRule;
 use plan_coerce::rule::OptimizationRule;
 use plan_coerce::stack_opt::ConversionOptimizer;
@@ -549,6 +548,5 @@ fn assert_second_refused<R: OptimizationRule>(rt: &impl Abort, alloc: Global, ru
 #[test]
 fn a_root_without_a_type_is_refused_by_any_rule(rt: HostRuntime) {
     assert_second_refused(&rt, rt.alloc(), &TypeCoercionRule);
-    assert_second_refused(&rt, rt.alloc(), &CastInliningRule);
     assert_second_refused(&rt, rt.alloc(), &TypeCheckRule);
 }

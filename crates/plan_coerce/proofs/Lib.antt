@@ -22,6 +22,7 @@ pub mod RootLemmas
 pub mod SettledLemmas
 pub mod StackLemmas
 pub mod ToldLemmas
+pub mod ToldRightLemmas
 pub mod TurnLemmas
 pub mod TypedNodeLemmas
 pub mod TypedRootLemmas

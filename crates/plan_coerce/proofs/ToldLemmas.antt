@@ -306,7 +306,7 @@ cast_turns : (registry : Registry) (schema : Columns) (op : Op) (ts : Trees Op) 
 cast_turns registry schema op ts operator cast strict told o =
     strict_turns registry schema (node op ts) strict ∙ gone_by (coerced registry schema (node op ts)) operator (goes registry schema op ts cast told) o
 
-cast_settled : (op : Op) (ts : Trees Op) → is_cast_op op ≡ true → settled (node op ts) ≡ node op ts
+pub cast_settled : (op : Op) (ts : Trees Op) → is_cast_op op ≡ true → settled (node op ts) ≡ node op ts
 cast_settled (CastOp target options) ts h = refl
 cast_settled op ts h = cc
 

@@ -1,6 +1,6 @@
 //! What stands for casts that can be told beforehand: a literal for a cast of one, and what stands under a cast of
 //! `LogicalAnd` or `LogicalOr` to truth values. Casts further in go first.
-ghost use Rattle.std.specs.Prelude.{◌≡◌, ℕ, List, [], ◌∷◌, None, Some, Ok, set, true, MatchOption, IfOk, IfErr};
+ghost use Rattle.std.specs.Prelude.{◌≡◌, ◌⊎◌, ℕ, List, [], ◌∷◌, None, Some, Ok, set, true, MatchOption, IfOk, IfErr};
 ghost use Rattle.plan_types.specs.Errors.{no_memory};
 ghost use Rattle.plan_types.specs.Types.{is_known, ty};
 ghost use Rattle.plan_types.specs.Schemas.{Columns};
@@ -14,6 +14,8 @@ ghost use Rattle.plan_arena.specs.declared.aexpr.AExpr.{AExpr};
 ghost use Rattle.plan_arena.specs.Denotation.{Denotes, DenotesTree};
 ghost use Rattle.plan_arena.specs.Items.{HoldsExpression, expression_layer};
 ghost use Rattle.plan_arena.specs.Layers.{op_of};
+ghost use Rattle.plan_infer.specs.declared.type_table.Inferred.{Inferred};
+ghost use Rattle.plan_infer.specs.KeptTypes.{IsKept, IsRight, KeepsEntry};
 ghost use Rattle.plan_coerce.specs.Coercion.{coerced};
 ghost use Rattle.plan_coerce.specs.InlinedCasts.{IsToldBy, IsTypedNode, is_cast_op, is_logical, literal_cast, literal_with, stays};
 ghost use Rattle.plan_coerce.specs.Reaching.{IsClosed, StaysOnce};
@@ -23,6 +25,7 @@ use plan_arena::aexpr::AExpr;
 use plan_arena::arena::{Arena, Node};
 use plan_dsl::literal::LiteralValue;
 use plan_dsl::operator::Operator;
+use plan_infer::type_table::TypeTable;
 use plan_types::cast::{can_cast, cast_value};
 use plan_types::common_type::materialize_dyn_int;
 use plan_types::dtype::{CastOptions, DataType};
@@ -41,15 +44,25 @@ enum Told {
     Neither,
 }
 
-/// The item that is to be put in place of a strict node, unless that stays.
-pub(crate) fn in_place_of(node: Node, arena: &Arena<AExpr>) -> Result<Option<AExpr>, PlanError>
-    requires { IsTypedNode arena.now node.0 }
+/// The item that is to be put in place of a strict node, unless that stays. What is kept of the node is right of the item
+/// too, or nothing is kept any more.
+pub(crate) fn in_place_of(
+    node: Node,
+    arena: &Arena<AExpr>,
+    types: &mut TypeTable,
+) -> Result<Option<AExpr>, PlanError>
+    requires typed { IsTypedNode arena.now node.0 }
+    requires kept { IsKept types.old node.0 }
     ensures answer { IfOk result (λ answer. (registry : Registry) (schema : Columns) (t : Expression) (typed : Typed) → Denotes (HoldsExpression arena.now) node.0 t → typing registry schema t ≡ Ok typed →
         said (is_strict_node registry schema) registry schema t ≡ true → MatchOption answer
         (stays (coerced registry schema t) ≡ true)
         (λ item. IsReplacement (HasSameWritten registry schema) (until_settled registry schema) registry schema arena.now (set arena.now node.0 item) node.0 t)) }
     ensures reaches { IfOk result (λ answer. MatchOption answer Unit (λ item. IsClosed arena.now (node.0 ∷ []) (set arena.now node.0 item))) }
     ensures once { IfOk result (λ answer. MatchOption answer Unit (λ item. StaysOnce arena.now (set arena.now node.0 item) node.0)) }
+    ensures placed { IfOk result (λ answer. MatchOption answer Unit (λ item. (registry : Registry) (schema : Columns) → IsRight registry schema arena.now types.old →
+        IsRight registry schema (set arena.now node.0 item) types.new)) }
+    ensures right { (registry : Registry) (schema : Columns) → IsRight registry schema arena.now types.old → IsRight registry schema arena.now types.new }
+    ensures table { IfOk result (λ answer. answer ≡ None → types.new ≡ types.old) }
     ensures err { IfErr result (λ error. error ≡ no_memory) }
 {
     if !is_cast(arena.get(node)) {
@@ -57,11 +70,44 @@ pub(crate) fn in_place_of(node: Node, arena: &Arena<AExpr>) -> Result<Option<AEx
     }
     match told_at(node, arena)? {
         Told::Neither => Ok(None),
-        Told::Literal(value) => Ok(Some(AExpr::Literal(value))),
+        Told::Literal(value) => {
+            clear_unless(keeps_strict(node, types), types);
+            Ok(Some(AExpr::Literal(value)))
+        }
         Told::Logical(below) => {
             let item = arena.get(below).try_clone(arena.allocator())?;
+            clear_unless(both_strict(node, below, types), types);
             Ok(Some(item))
         }
+    }
+}
+
+// Whether it is kept of a node that it takes its operands as they are.
+fn keeps_strict(node: Node, types: &TypeTable) -> bool
+    ensures { result ≡ true → (own : Inferred) × KeepsEntry types.now node.0 own × (own.operands ≡ []) }
+{
+    match types.kept(node) {
+        None => false,
+        Some(own) => own.is_strict(),
+    }
+}
+
+// Whether it is kept of both.
+fn both_strict(node: Node, below: Node, types: &TypeTable) -> bool
+    ensures { result ≡ true → ((own : Inferred) × KeepsEntry types.now node.0 own × (own.operands ≡ [])) × ((own : Inferred) × KeepsEntry types.now below.0 own × (own.operands ≡ [])) }
+{
+    if !keeps_strict(node, types) {
+        return false;
+    }
+    keeps_strict(below, types)
+}
+
+// Keeps what is kept, or nothing.
+fn clear_unless(stays: bool, types: &mut TypeTable)
+    ensures { ((stays ≡ true) × (types.new ≡ types.old)) ⊎ ((n : ℕ) → ¬ (IsKept types.new n)) }
+{
+    if !stays {
+        types.clear();
     }
 }
 

@@ -159,12 +159,9 @@ fn replacement(
 {
     match item_for(node, arena, types)? {
         Some(item) => Ok(Some(item)),
-        None => match in_place_of(node, arena)? {
+        None => match in_place_of(node, arena, types)? {
             None => Ok(None),
-            Some(told) => {
-                types.clear();
-                Ok(Some(told))
-            }
+            Some(told) => Ok(Some(told)),
         },
     }
 }

@@ -1,5 +1,5 @@
-//! Casts round the operands of what is lowered, by the rule of coercion. Those that can be told beforehand go, by a second rule.
-ghost use Rattle.std.specs.Prelude.{◌≡◌, ◌<◌, ◌≤◌, ℕ, [], ◌∷◌, length, map, IfErr, IfOk, OnOk};
+//! Casts round the operands of what is lowered, by the rule of coercion.
+ghost use Rattle.std.specs.Prelude.{◌≡◌, ◌<◌, ℕ, ◌∷◌, [], map, IfErr, IfOk, OnOk};
 ghost use Rattle.std.specs.List.{AllByRecursion};
 ghost use Rattle.plan_types.specs.Errors.{no_memory};
 ghost use Rattle.plan_types.specs.Schemas.{columns};
@@ -8,14 +8,11 @@ ghost use Rattle.plan_arena.specs.Items.{named_node};
 ghost use Rattle.plan_infer.specs.KeptTypes.{IsRight};
 ghost use Rattle.plan_infer.specs.Typed.{DenotesKnown};
 ghost use Rattle.plan_coerce.specs.Coercion.{KeepsBelow};
-ghost use Rattle.plan_coerce.specs.InlinedCasts.{HasSameInlined, stays};
-ghost use Rattle.plan_coerce.specs.Optimizer.{AreTrees, AreTypedRoots, AreWrittenOut, DenotesSettled, StaysApart, StaysLike, roots_of};
-ghost use Rattle.plan_coerce.specs.Reaching.{IsReached};
+ghost use Rattle.plan_coerce.specs.Optimizer.{AreWrittenOut, roots_of};
 
 use plan_arena::aexpr::AExpr;
 use plan_arena::arena::{Arena, Node};
 use plan_arena::expr_ir::ExprIRs;
-use plan_coerce::cast_inlining::CastInliningRule;
 use plan_coerce::coercion_rule::TypeCoercionRule;
 use plan_coerce::stack_opt::ConversionOptimizer;
 use plan_dsl::udfs::Udfs;
@@ -27,19 +24,16 @@ use std::alloc::Global;
 use std::marker::Brand;
 use std::sync::ledger::{Blank, Ledger};
 
-/// Puts casts round the operands of each node that the expressions reach, but for those that can be told beforehand. Each
-/// of these nodes has the number or a greater one.
+/// Puts casts round the operands of each node that the expressions reach, but for those that can be told beforehand.
 pub(crate) fn coerce_all(
     exprs: &ExprIRs,
-    start: usize,
     arena: &mut Arena<AExpr>,
     schema: &Schema,
     udfs: &Udfs,
     types: &mut TypeTable,
 ) -> Result<(), PlanError>
     requires right { IsRight (registry udfs.now) (columns schema.now) arena.old types.old }
-    requires within { start ≤ length arena.old }
-    requires known { AllByRecursion (DenotesKnown (registry udfs.now) (columns schema.now) start arena.old) (map (λ e. (named_node e).expression) exprs.now.items.items) }
+    requires known { (start : ℕ) × AllByRecursion (DenotesKnown (registry udfs.now) (columns schema.now) start arena.old) (map (λ e. (named_node e).expression) exprs.now.items.items) }
     ensures ok { OnOk result ((first : ℕ) → AllByRecursion (DenotesKnown (registry udfs.now) (columns schema.now) first arena.old) (map (λ e. (named_node e).expression) exprs.now.items.items) →
         AreWrittenOut (registry udfs.now) (columns schema.now) first arena.old arena.new (map (λ e. (named_node e).expression) exprs.now.items.items)) }
     ensures below { (first : ℕ) → AllByRecursion (DenotesKnown (registry udfs.now) (columns schema.now) first arena.old) (map (λ e. (named_node e).expression) exprs.now.items.items) →
@@ -47,22 +41,19 @@ pub(crate) fn coerce_all(
     ensures err { IfErr result (λ error. error ≡ no_memory) }
 {
     let optimizer = stacked_all(exprs, arena.allocator())?;
-    let inliner = stacked_all(exprs, arena.allocator())?;
-    coerce_stacked(optimizer, inliner, start, arena, schema, udfs, types)
+    coerce_stacked(optimizer, arena, schema, udfs, types)
 }
 
 /// Puts casts round the operands of each node that a root reaches, but for those that can be told beforehand.
 pub(crate) fn coerce_root(
     root: Node,
-    start: usize,
     arena: &mut Arena<AExpr>,
     schema: &Schema,
     udfs: &Udfs,
     types: &mut TypeTable,
 ) -> Result<(), PlanError>
     requires right { IsRight (registry udfs.now) (columns schema.now) arena.old types.old }
-    requires within { start ≤ length arena.old }
-    requires known { AllByRecursion (DenotesKnown (registry udfs.now) (columns schema.now) start arena.old) (root.0 ∷ []) }
+    requires known { (start : ℕ) × AllByRecursion (DenotesKnown (registry udfs.now) (columns schema.now) start arena.old) (root.0 ∷ []) }
     ensures ok { OnOk result ((first : ℕ) → AllByRecursion (DenotesKnown (registry udfs.now) (columns schema.now) first arena.old) (root.0 ∷ []) →
         AreWrittenOut (registry udfs.now) (columns schema.now) first arena.old arena.new (root.0 ∷ [])) }
     ensures below { (first : ℕ) → AllByRecursion (DenotesKnown (registry udfs.now) (columns schema.now) first arena.old) (root.0 ∷ []) →
@@ -70,8 +61,7 @@ pub(crate) fn coerce_root(
     ensures err { IfErr result (λ error. error ≡ no_memory) }
 {
     let optimizer = stacked_root(root, arena.allocator())?;
-    let inliner = stacked_root(root, arena.allocator())?;
-    coerce_stacked(optimizer, inliner, start, arena, schema, udfs, types)
+    coerce_stacked(optimizer, arena, schema, udfs, types)
 }
 
 // An optimizer on which the expressions' nodes are stacked.
@@ -94,20 +84,16 @@ fn stacked_root(root: Node, alloc: Global) -> Result<ConversionOptimizer, PlanEr
     Ok(optimizer)
 }
 
-// Puts casts round the operands of what the roots reach that were stacked for each rule. Nobody counts the steps.
+// Puts casts round the operands of what the stacked roots reach. Nobody counts the steps.
 fn coerce_stacked(
     optimizer: ConversionOptimizer,
-    inliner: ConversionOptimizer,
-    start: usize,
     arena: &mut Arena<AExpr>,
     schema: &Schema,
     udfs: &Udfs,
     types: &mut TypeTable,
 ) -> Result<(), PlanError>
     requires right { IsRight (registry udfs.now) (columns schema.now) arena.old types.old }
-    requires within { start ≤ length arena.old }
-    requires known { AllByRecursion (DenotesKnown (registry udfs.now) (columns schema.now) start arena.old) (roots_of optimizer) }
-    requires both { roots_of inliner ≡ roots_of optimizer }
+    requires known { (start : ℕ) × AllByRecursion (DenotesKnown (registry udfs.now) (columns schema.now) start arena.old) (roots_of optimizer) }
     ensures ok { OnOk result ((first : ℕ) → AllByRecursion (DenotesKnown (registry udfs.now) (columns schema.now) first arena.old) (roots_of optimizer) →
         AreWrittenOut (registry udfs.now) (columns schema.now) first arena.old arena.new (roots_of optimizer)) }
     ensures below { (first : ℕ) → AllByRecursion (DenotesKnown (registry udfs.now) (columns schema.now) first arena.old) (roots_of optimizer) →
@@ -116,16 +102,12 @@ fn coerce_stacked(
 {
     let typings = Blank::new(1);
     let steps = Blank::new(1);
-    coerce_by::<Brand, Brand>(
-        optimizer, inliner, start, arena, schema, udfs, types, typings, steps,
-    )
+    coerce_by::<Brand, Brand>(optimizer, arena, schema, udfs, types, typings, steps)
 }
 
-// Puts casts round the operands of what the roots reach that were stacked for each rule, with ledgers of its own.
+// Puts casts round the operands of what the stacked roots reach, with ledgers of its own.
 fn coerce_by<M: Ledger, L: Ledger>(
     optimizer: ConversionOptimizer,
-    inliner: ConversionOptimizer,
-    start: usize,
     arena: &mut Arena<AExpr>,
     schema: &Schema,
     udfs: &Udfs,
@@ -140,9 +122,7 @@ fn coerce_by<M: Ledger, L: Ledger>(
     requires steps_parts { steps.parts ≡ L.parts }
     requires some_steps { 0 < steps.parts }
     requires right { IsRight (registry udfs.now) (columns schema.now) arena.old types.old }
-    requires within { start ≤ length arena.old }
-    requires known { AllByRecursion (DenotesKnown (registry udfs.now) (columns schema.now) start arena.old) (roots_of optimizer) }
-    requires both { roots_of inliner ≡ roots_of optimizer }
+    requires known { (start : ℕ) × AllByRecursion (DenotesKnown (registry udfs.now) (columns schema.now) start arena.old) (roots_of optimizer) }
     ensures ok { OnOk result ((first : ℕ) → AllByRecursion (DenotesKnown (registry udfs.now) (columns schema.now) first arena.old) (roots_of optimizer) →
         AreWrittenOut (registry udfs.now) (columns schema.now) first arena.old arena.new (roots_of optimizer)) }
     ensures below { (first : ℕ) → AllByRecursion (DenotesKnown (registry udfs.now) (columns schema.now) first arena.old) (roots_of optimizer) →
@@ -160,51 +140,5 @@ fn coerce_by<M: Ledger, L: Ledger>(
         types,
         &mut typings,
         &mut steps,
-    )?;
-    inline_by(
-        inliner,
-        start,
-        arena,
-        schema,
-        udfs,
-        types,
-        &mut typings,
-        &mut steps,
-    )
-}
-
-// Leaves out the casts that can be told beforehand, of what the stacked roots reach. Where no node from the number on is one
-// of which a cast can be told, there are none.
-fn inline_by<M: Ledger, L: Ledger>(
-    inliner: ConversionOptimizer,
-    start: usize,
-    arena: &mut Arena<AExpr>,
-    schema: &Schema,
-    udfs: &Udfs,
-    types: &mut TypeTable,
-    typings: &mut Steps<M>,
-    steps: &mut Steps<L>,
-) -> Result<(), PlanError>
-    requires trees { AreTrees arena.old (roots_of inliner) }
-    requires right { IsRight (registry udfs.now) (columns schema.now) arena.old types.old }
-    requires typed { AreTypedRoots stays (registry udfs.now) (columns schema.now) arena.old (roots_of inliner) }
-    requires from { (n : ℕ) → IsReached arena.old (roots_of inliner) n → start ≤ n }
-    ensures like { StaysLike HasSameInlined (registry udfs.now) (columns schema.now) arena.old arena.new }
-    ensures settled { OnOk result (AllByRecursion (DenotesSettled stays arena.new) (roots_of inliner)) }
-    ensures apart { StaysApart arena.old arena.new (roots_of inliner) }
-    ensures err { IfErr result (λ error. error ≡ no_memory) }
-{
-    if !CastInliningRule::may_change(start, arena) {
-        return Ok(());
-    }
-    let mut inliner = inliner;
-    inliner.coerce_expressions(
-        &CastInliningRule,
-        arena,
-        schema,
-        udfs,
-        types,
-        typings,
-        steps,
     )
 }

@@ -140,10 +140,9 @@ fn aggregate_coerced(
     ensures kept { KeepsExpressions arena.old arena.new }
     ensures err { IfErr result (IsAggregateRefusal (registry udfs.now) (columns schema.now) (names_of (columns keys)) (plain_trees aggs)) }
 {
-    let start = arena.len();
     let projection = project(aggs, schema, arena, udfs, ErrorKind::Duplicate, types)?;
     let whole = with_aggregates(keys, &projection.expr, types, arena.allocator())?;
-    coerce_all(&projection.expr, start, arena, schema, udfs, types)?;
+    coerce_all(&projection.expr, arena, schema, udfs, types)?;
     Ok(Projection {
         expr: projection.expr,
         schema: whole,

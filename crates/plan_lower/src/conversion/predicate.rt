@@ -73,13 +73,12 @@ fn lower_typed(
     ensures kept { KeepsExpressions arena.old arena.new }
     ensures err { IfErr result (IsPredicateRefusal (registry udfs.now) (columns schema.now) (plain_tree predicate)) }
 {
-    let start = arena.len();
     let expr_ir = add_typed(predicate, schema, arena, udfs, types)?;
     if types.get(expr_ir.node()).dtype != DataType::Boolean {
         drop(expr_ir);
         return Err(PlanError::at_top(ErrorKind::InvalidOperation));
     }
-    match coerce_root(expr_ir.node(), start, arena, schema, udfs, types) {
+    match coerce_root(expr_ir.node(), arena, schema, udfs, types) {
         Ok(()) => Ok(expr_ir),
         Err(error) => {
             drop(expr_ir);

@@ -127,9 +127,8 @@ fn project_coerced(
     ensures kept { KeepsExpressions arena.old arena.new }
     ensures err { IfErr result (IsProjectionRefusal (registry udfs.now) (columns schema.now) twice (plain_trees exprs)) }
 {
-    let start = arena.len();
     let projection = project(exprs, schema, arena, udfs, twice, types)?;
-    match coerce_all(&projection.expr, start, arena, schema, udfs, types) {
+    match coerce_all(&projection.expr, arena, schema, udfs, types) {
         Ok(()) => Ok(projection),
         Err(error) => {
             drop(projection);

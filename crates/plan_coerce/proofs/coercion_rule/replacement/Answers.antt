@@ -1,9 +1,9 @@
-use Rattle.std.proofs.Common.{set, sym, subst}
+use Rattle.std.proofs.Common.{set, sym, ◌∙◌, subst}
 use Rattle.std.proofs.lemmas.Bool.{and_from}
 use Rattle.plan_arena.specs.Denotation.{Denotes}
 use Rattle.plan_arena.specs.Items.{HoldsExpression}
-use Rattle.plan_infer.specs.KeptTypes.{typed_of}
-use Rattle.plan_infer.proofs.TableLemmas.{kept_typing, right_start}
+use Rattle.plan_infer.specs.KeptTypes.{IsKept, typed_of}
+use Rattle.plan_infer.proofs.TableLemmas.{kept_typing}
 use Rattle.plan_coerce.specs.InlinedCasts.{IsTypedNode}
 use Rattle.plan_coerce.specs.Rules.{HasSameWritten, IsReplacement, is_strict_node, said, until_settled}
 use Rattle.plan_coerce.proofs.CoercionRuleLemmas.{kept_node}
@@ -11,9 +11,12 @@ use Rattle.plan_coerce.proofs.ToldLemmas.{none_said}
 use Rattle.plan_coerce.proofs.TurnLemmas.{some_said}
 use Rattle.plan_coerce.proofs.coercion_rule.replacement.Goals as goal
 
-pub in_place_of-requires : goal.in_place_of-requires
-in_place_of-requires c =
+pub in_place_of-requires-clause-typed : goal.in_place_of-requires-clause-typed
+in_place_of-requires-clause-typed c =
     subst (λ items. IsTypedNode items c.args.node.0) (sym (c.in_ok-item.ensures.same c.in-None.is)) (kept_node c.args.arena.now c.args.types.now c.args.node.0 c.requires.right c.requires.kept)
+
+pub in_place_of-requires-clause-kept : goal.in_place_of-requires-clause-kept
+in_place_of-requires-clause-kept c = subst (λ table. IsKept table c.args.node.0) (sym (c.in_ok-item.ensures.table c.in-None.is)) c.requires.kept
 
 pub returns-in-Some-clause-answer : goal.returns-in-Some-clause-answer
 returns-in-Some-clause-answer c = λ registry schema t right d.
@@ -43,7 +46,13 @@ returns-in-Some-2-clause-answer c = λ registry schema t right d.
 
 pub returns-in-Some-2-clause-placed : goal.returns-in-Some-2-clause-placed
 returns-in-Some-2-clause-placed c = λ registry schema right none.
-    right_start registry schema (set c.item_for.new.arena c.args.node.0 c.in-Some-2.told) c.clear.new.self c.clear.ensures
+    some_said _ _ c.in_ok-in_place_of-in-None.field-0 c.in-Some-2.told c.in-Some-2.is c.in_ok-in_place_of-in-None.ensures.placed registry schema (c.in_ok-item.ensures.right registry schema right)
 
 pub returns-in-Some-2-clause-right : goal.returns-in-Some-2-clause-right
-returns-in-Some-2-clause-right c = λ registry schema right. right_start registry schema c.item_for.new.arena c.clear.new.self c.clear.ensures
+returns-in-Some-2-clause-right c = λ registry schema right. c.in_ok-in_place_of-in-None.ensures.right registry schema (c.in_ok-item.ensures.right registry schema right)
+
+pub returns-in-None-2-clause-right : goal.returns-in-None-2-clause-right
+returns-in-None-2-clause-right c = λ registry schema right. c.in_ok-in_place_of-in-None.ensures.right registry schema (c.in_ok-item.ensures.right registry schema right)
+
+pub returns-in-None-2-clause-table : goal.returns-in-None-2-clause-table
+returns-in-None-2-clause-table c = λ e. c.in_ok-in_place_of-in-None.ensures.table c.in-None-2.is ∙ c.in_ok-item.ensures.table c.in-None.is

@@ -1,4 +1,4 @@
-use Rattle.std.proofs.Common.{ℕ, OnOk, sym, ◌∙◌, subst}
+use Rattle.std.proofs.Common.{ℕ, OnOk, sym, subst}
 use Rattle.std.specs.List.{AllByRecursion}
 use Rattle.plan_types.specs.Schemas.{columns}
 use Rattle.plan_dsl.specs.Registry.{registry}
@@ -10,9 +10,7 @@ use Rattle.plan_lower.proofs.conversion.coercion.coerce_all.Goals as goal
 pub coerce_stacked-requires : goal.coerce_stacked-requires
 coerce_stacked-requires c = record {
   right = c.requires.right;
-  within = c.requires.within;
-  known = subst (AllByRecursion (DenotesKnown (registry c.args.udfs.now) (columns c.args.schema.now) c.args.start c.args.arena.now)) (sym c.in_ok-optimizer.ensures.ok) c.requires.known;
-  both = c.in_ok-inliner.ensures.ok ∙ sym c.in_ok-optimizer.ensures.ok;
+  known = (c.requires.known.0, subst (AllByRecursion (DenotesKnown (registry c.args.udfs.now) (columns c.args.schema.now) c.requires.known.0 c.args.arena.now)) (sym c.in_ok-optimizer.ensures.ok) c.requires.known.1);
 }
 
 pub returns-clause-ok : goal.returns-clause-ok

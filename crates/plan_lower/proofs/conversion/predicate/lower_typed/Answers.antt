@@ -1,5 +1,4 @@
-use Rattle.std.proofs.Common.{[], ◌∷◌, length, refl, sym, ap, ◌∙◌, subst, arith}
-use Rattle.std.specs.List.{AllByRecursion}
+use Rattle.std.proofs.Common.{[], ◌∷◌, length, refl, sym, ap, ◌∙◌, subst}
 use Rattle.plan_types.specs.Types.{ty, Truth}
 use Rattle.plan_types.specs.TypeLaws.{same_type_exact}
 use Rattle.plan_types.specs.Schemas.{columns}
@@ -7,9 +6,8 @@ use Rattle.plan_types.proofs.ResultLemmas.{passed_on}
 use Rattle.plan_dsl.specs.Expressions.{plain_tree}
 use Rattle.plan_dsl.specs.Registry.{registry}
 use Rattle.plan_arena.specs.Items.{named_node}
-use Rattle.plan_arena.proofs.ItemLemmas.{grown_held, length-grown}
+use Rattle.plan_arena.proofs.ItemLemmas.{grown_held}
 use Rattle.plan_arena.proofs.OperandNameLemmas.{plan_names}
-use Rattle.plan_infer.specs.Typed.{DenotesKnown}
 use Rattle.plan_coerce.specs.Optimizer.{AreWrittenOut}
 use Rattle.plan_bounds.proofs.WideLemmas.{plan_wide}
 use Rattle.plan_lower.proofs.ProjectionLemmas.{one_output, root_typed, has_predicate, refused_predicate, other_type_refused, not_true, not_false, earlier_kept}
@@ -61,8 +59,7 @@ coerce_root-requires c =
     let is = one_output r schema first c.add_typed.new.arena (plain_tree c.args.predicate) n c.node.result.0 (ty c.get.result.now.dtype) c.in_ok-expr_ir.ensures.denotes (plan_names c.args.predicate) (plan_wide c.args.predicate) c.node.ensures (kept_type r schema c.add_typed.new.arena c.add_typed.new.types c.in_ok-expr_ir.ensures.right c.node.result.0 _ (type_of c.add_typed.new.types c.node.result.0 c.get.result.now c.get.ensures)) in
     record {
       right = c.in_ok-expr_ir.ensures.right;
-      within = omega (arith, c.len-start.ensures, length-grown c.args.arena.now c.add_typed.new.arena c.in_ok-expr_ir.ensures.grows);
-      known = subst (λ k. AllByRecursion (DenotesKnown r schema k c.add_typed.new.arena) (c.node-2.result.0 ∷ [])) (sym c.len-start.ensures) (root_typed r schema first c.add_typed.new.arena _ _ is.1 (ap (λ k. k ∷ []) c.node-2.ensures));
+      known = (first, root_typed r schema first c.add_typed.new.arena _ _ is.1 (ap (λ k. k ∷ []) c.node-2.ensures));
     }
 
 pub returns-in_err-expr_ir-clause-kept : goal.returns-in_err-expr_ir-clause-kept

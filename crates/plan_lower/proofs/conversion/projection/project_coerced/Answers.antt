@@ -2,7 +2,7 @@ use Rattle.std.proofs.Common.{length, sym, subst, arith}
 use Rattle.std.specs.List.{AllByRecursion}
 use Rattle.plan_types.specs.Schemas.{columns}
 use Rattle.plan_dsl.specs.Registry.{registry}
-use Rattle.plan_arena.proofs.ItemLemmas.{grown_held, length-grown}
+use Rattle.plan_arena.proofs.ItemLemmas.{grown_held}
 use Rattle.plan_infer.specs.Typed.{DenotesKnown}
 use Rattle.plan_coerce.specs.Optimizer.{AreWrittenOut}
 use Rattle.plan_lower.proofs.ProjectionLemmas.{roots_are, roots_typed, has_outputs, earlier_kept}
@@ -11,13 +11,13 @@ use Rattle.plan_lower.proofs.conversion.projection.project_coerced.Goals as goal
 pub coerce_all-requires : goal.coerce_all-requires
 coerce_all-requires c = record {
   right = c.in_ok-projection.ensures.right;
-  within = omega (arith, c.len-start.ensures, length-grown c.args.arena.now c.project.new.arena c.in_ok-projection.ensures.grows);
   known =
       let r = registry c.args.udfs.now in
       let s = columns c.args.schema.now in
       let p = c.in_ok-projection.ensures.ok in
       let roots = roots_are c.in_ok-projection.projection.expr.items.items p.outputs p.nodes_are in
-      subst (AllByRecursion (DenotesKnown r s c.len-start.result c.project.new.arena)) (sym roots) (roots_typed r s c.len-start.result (length c.args.arena.now) c.project.new.arena (omega (arith, c.len-start.ensures)) p.outputs p.each);
+      let first = length c.args.arena.now in
+      (first, subst (AllByRecursion (DenotesKnown r s first c.project.new.arena)) (sym roots) (roots_typed r s first first c.project.new.arena (omega arith) p.outputs p.each));
 }
 
 pub returns-in-Ok-clause-ok : goal.returns-in-Ok-clause-ok
