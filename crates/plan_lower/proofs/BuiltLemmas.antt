@@ -1,7 +1,7 @@
 -- What is built from scans, filters, selects and hstacks, and why one of the last three isn't.
 use Rattle.std.proofs.Common.{◌≡◌, ◌⊎◌, inl, inr, ℕ, List, [], ◌∷◌, ◌++◌, map, true, false, is_some, IsTrue, Option, Some, None, Result, Ok, Err, refl, sym, ap, ◌∙◌, subst, ⊎_elim}
 use Rattle.std.specs.List.{AllByRecursion, Contains}
-use Rattle.std.proofs.lemmas.List.{map-append}
+use Rattle.std.proofs.lemmas.List.{length-map, map-append}
 use Rattle.std.proofs.lemmas.List.Elements.{Contains-push}
 use Rattle.plan_types.specs.Types.{Truth}
 use Rattle.plan_types.specs.Schemas.{Columns, type_at, HasDistinctNames, names_of, all_known}
@@ -20,7 +20,7 @@ use Rattle.plan_dsl.specs.Plans.{PlanOp, Plan, SourcePlan, Named, named, Refused
 use Rattle.plan_dsl.specs.Sources.{Source}
 use Rattle.plan_dsl.specs.Refusals.{then_ok, with_kinds}
 use Rattle.plan_dsl.specs.Resolving.{expanded_kind, resolved}
-use Rattle.plan_dsl.specs.Aliases.{IsCore, core}
+use Rattle.plan_dsl.specs.Aliases.{IsCore, core, spelled}
 use Rattle.plan_dsl.specs.Literals.{settled}
 use Rattle.plan_dsl.specs.Typing.{Typed, typing}
 use Rattle.plan_dsl.specs.PlanRules.{with_columns, plan_rule, schema_of, broken_kinds, Breaks}
@@ -30,8 +30,8 @@ use Rattle.plan_dsl.proofs.ResolvingLemmas.{resolved_as}
 use Rattle.plan_dsl.proofs.FrameLemmas.{fits_input, fits_over}
 use Rattle.plan_dsl.proofs.KernelLemmas.{AgreeOn, selected_agrees, hstacked_agrees, filtered_agrees}
 use Rattle.plan_dsl.proofs.LiteralLemmas.{strict_settled, settled_label}
-use Rattle.plan_dsl.proofs.AliasLemmas.{core_label}
-use Rattle.plan_dsl.proofs.CoreLemmas.{core_none}
+use Rattle.plan_dsl.proofs.AliasLemmas.{spelled_label}
+use Rattle.plan_dsl.proofs.CoreLemmas.{settled_none}
 use Rattle.plan_coerce.specs.Coercion.{coerced}
 use Rattle.plan_coerce.proofs.CoercedLemmas.{coerced_core}
 use Rattle.plan_coerce.proofs.InliningLemmas.{inlined_core}
@@ -48,6 +48,7 @@ use Rattle.plan_lower.specs.Projection.{IsOutputRefusal, no_room, untyped, repea
 use Rattle.plan_properties.specs.Splitting.{IsCondition, IsWhole, split_predicate}
 use Rattle.plan_lower.specs.Predicates.{FiltersBy, IsPredicateRefusal, without_room, without_type, of_other_type, lowered_filter}
 use Rattle.plan_properties.proofs.FilterLemmas.{runs_as, split_predicates, split_runs, stacked}
+use Rattle.plan_lower.proofs.SpelledLemmas.{spelled_means, typed_spelled}
 use Rattle.plan_lower.specs.Lowering.{IsBuilt, IsPlanRefusal, out_of_memory, broken, resolved_select, resolved_hstack, resolved_filter}
 
 abbrev pub output_label : Lowered → Label
@@ -88,8 +89,15 @@ module _ (registry : Registry) where
   each_typed schema [] each = tt
   each_typed schema (o ∷ os) each = (each.0.typed, each_typed schema os each.1)
 
+  -- an expression has its type written out too, and so has what stands for it
+  out_typed : (schema : Columns) (o : Lowered) → IsLowered registry schema o → typing registry schema (settled (spelled o.tree)) ≡ Ok o.typed
+  out_typed schema o is = typed_spelled registry schema o.tree o.typed is.typed
+
+  own_typed : (schema : Columns) (o : Lowered) → IsLowered registry schema o → typing registry schema o.after ≡ Ok o.typed
+  own_typed schema o is = is.same.typing ∙ out_typed schema o is
+
   after_typed : (schema : Columns) (o : Lowered) → IsLowered registry schema o → typing registry schema (settled o.after) ≡ Ok o.typed
-  after_typed schema o is = ap (typing registry schema) (strict_settled registry schema o.after is.strict) ∙ is.same.typing ∙ is.typed
+  after_typed schema o is = ap (typing registry schema) (strict_settled registry schema o.after is.strict) ∙ own_typed schema o is
 
   pub each_after_typed : (schema : Columns) (outputs : List Lowered) → AllByRecursion (IsLowered registry schema) outputs → AllByRecursion (λ (o : Lowered). typing registry schema (settled o.after) ≡ Ok o.typed) outputs
   each_after_typed schema [] each = tt
@@ -98,7 +106,8 @@ module _ (registry : Registry) where
   -- what stands for an expression has no aliases
   after_core : (schema : Columns) (o : Lowered) → IsLowered registry schema o → IsCore o.after
   after_core schema o is =
-      subst IsCore (sym is.casts) (inlined_core (coerced registry schema (settled (core o.tree))) (coerced_core registry schema (settled (core o.tree)) (core_none registry schema o.tree o.typed is.typed)))
+      let tree = settled (spelled o.tree) in
+      subst IsCore (sym is.casts) (inlined_core (coerced registry schema tree) (coerced_core registry schema tree (settled_none true registry schema o.tree o.typed (out_typed schema o is))))
 
   strict_core : (schema : Columns) (o : Lowered) → IsLowered registry schema o → IsStrictCore registry schema o.after
   strict_core schema o is = (after_core schema o is, is.strict)
@@ -109,7 +118,7 @@ module _ (registry : Registry) where
 
   -- what stands for an expression has its name, from the same, or an alias, and so have the operands of its functions
   own_named : (schema : Columns) (o : Lowered) → IsLowered registry schema o → HasOwnName (lowered_named o)
-  own_named schema o is = (⊎_elim (λ alias. inl alias) (λ e. inr (e ∙ sym (is.same.name ∙ settled_label (core o.tree)))) (core_label o.tree), is.names)
+  own_named schema o is = (⊎_elim (λ alias. inl alias) (λ e. inr (e ∙ sym (is.same.name ∙ settled_label (spelled o.tree)))) (spelled_label o.tree), is.names)
 
   pub each_named : (schema : Columns) (outputs : List Lowered) → AllByRecursion (IsLowered registry schema) outputs → AllByRecursion HasOwnName (map lowered_named outputs)
   each_named schema [] each = tt
@@ -120,14 +129,14 @@ module _ (registry : Registry) where
   each_wide schema [] each = tt
   each_wide schema (o ∷ os) each = (each.0.wide, each_wide schema os each.1)
 
-  -- what stands for an expression gives what the expression means
+  -- what stands for an expression gives on frames what the expression means
   pub agree : (schema : Columns) (outputs : List Lowered) → AllByRecursion (IsLowered registry schema) outputs → AgreeOn schema (by_running registry) (by_meaning registry) (map lowered_named outputs) (map (λ (o : Lowered). named o.tree) outputs)
-  agree schema [] each rows = refl
-  agree schema (o ∷ os) each rows =
+  agree schema [] each rows is = refl
+  agree schema (o ∷ os) each rows is =
       let frame : Frame = record { schema = schema; rows = rows } in
-      let typed = each.0.same.typing in
-      let gives = strict_is_meaning registry frame o.after (after_core schema o each.0) each.0.strict ∙ each.0.same.meaning rows in
-      let rest = agree schema os each.1 rows in
+      let typed = own_typed schema o each.0 ∙ sym each.0.typed in
+      let gives = strict_is_meaning registry frame o.after (after_core schema o each.0) each.0.strict ∙ each.0.same.meaning rows ∙ spelled_means registry schema o.tree frame o.typed is refl each.0.typed in
+      let rest = agree schema os each.1 rows is in
       λ i. record { name = name_of o.tree; typing = typed i; gives = gives i } ∷ rest i
 
   -- what was built gives on fitting tables a frame of its schema
@@ -138,7 +147,7 @@ module _ (registry : Registry) where
   -- what stands for expressions has no more casts and nodes than they call for
   pub each_within : (schema : Columns) (outputs : List Lowered) → AllByRecursion (IsLowered registry schema) outputs → AreWithin registry schema (map (λ (o : Lowered). named o.tree) outputs) (map lowered_named outputs)
   each_within schema [] each = none_within registry schema
-  each_within schema (o ∷ os) each = more_within registry schema (named o.tree) (lowered_named o) o.typed _ _ each.0.typed each.0.casts (each_within schema os each.1)
+  each_within schema (o ∷ os) each = more_within registry schema o.tree (lowered_named o) o.typed _ _ each.0.typed each.0.wide each.0.casts (each_within schema os each.1)
 
   only_within : (schema : Columns) (outputs : List Lowered) → AllByRecursion (IsLowered registry schema) outputs → AllWithin registry schema (over_input 0 (map (λ (o : Lowered). named o.tree) outputs) ∷ []) (over_input 0 (map lowered_named outputs) ∷ [])
   only_within schema outputs each = all_within registry schema _ _ [] [] (each_within schema outputs each) (nothing_within registry schema)
@@ -202,7 +211,7 @@ module _ (registry : Registry) where
       let own = map lowered_column outputs in
       let here = select_schema registry schema output_label (λ (o : Lowered). o.after) output_typed (Some own) outputs (each_after_typed schema outputs each) distinct in
       over_built (select_op (source_outputs outputs) None) (select_op (map lowered_named outputs) (Some own)) source lowered schema own built (select_columns schema None outputs each distinct) here refl (each_strict schema outputs each, tt) (each_named schema outputs each, tt) (each_wide schema outputs each, tt) tt refl (only_within schema outputs each)
-      (λ tables input meets. selected_agrees (by_running registry) (by_meaning registry) (map lowered_named outputs) (source_outputs outputs) schema input (agree schema outputs each) meets)
+      (λ tables input meets. selected_agrees (by_running registry) (by_meaning registry) (map lowered_named outputs) (source_outputs outputs) schema input (length-map outputs lowered_named ∙ sym (length-map outputs (λ (o : Lowered). named o.tree))) (agree schema outputs each) meets)
 
   -- a select of expressions that become the outputs, over an input that is built, is built
   pub select_built : (source lowered : Plan) (schema : Columns) (trees : List Expression) (outputs : List Lowered) → IsBuilt registry source lowered schema → SelectsTo registry schema trees outputs → IsBuilt registry (resolved_select trees source) (lowered_select outputs lowered) (map lowered_column outputs)
@@ -231,7 +240,7 @@ module _ (registry : Registry) where
   filter_over source lowered schema built o is truth =
       let before = filter_op (named o.tree) in
       let there = over_schema before source schema schema built.source_schema (filter_schema registry schema (named o.tree) o.typed is.typed truth) in
-      let condition : IsCondition registry schema o.after = record { own = o.typed; typed = is.same.typing ∙ is.typed; truth = truth; strict = is.strict } in
+      let condition : IsCondition registry schema o.after = record { own = o.typed; typed = own_typed schema o is; truth = truth; strict = is.strict } in
       let core = after_core schema o is in
       let predicates = split_predicates registry schema (lowered_named o) condition core (own_named schema o is) in
       let s = stacked registry schema (split_predicate (lowered_named o)) lowered predicates built.lowered_schema built.accepted built.strict built.names built.split in

@@ -60,10 +60,10 @@ same_frame (frame ∷ rest) fits = same_on two_columns refl frame rest fits.0.sc
 bounded : IsBounded [] query lowered_query
 bounded =
     let casts : cast_count lowered_query ≡ 1 = refl in
-    let needs : plan_needs [] query ≡ 1 = refl in
-    let idle : plan_idle [] lowered_query ≡ 0 = refl in
-    let size : plan_size lowered_query ≡ 5 = refl in
-    let whole : plan_size query ≡ 5 = refl in
+    let needs : plan_needs true [] query ≡ 1 = refl in
+    let idle : plan_idle false [] lowered_query ≡ 0 = refl in
+    let size : plan_size false lowered_query ≡ 5 = refl in
+    let whole : plan_size true query ≡ 5 = refl in
     record { casts = omega (arith, casts, needs); idle = omega (arith, idle); size = omega (arith, size, whole) }
 
 pub built : IsBuilt [] query lowered_query (one_column int32)

@@ -28,5 +28,5 @@ module _ (first : ℕ) (items : List AExpr) (n : ℕ) (item : AExpr) (got : slic
   top_operands = denoted_operands items n item got (record { tree = t; denotes = any_node first items n t d })
 
 -- the field of an expression's nodes has the expression's name
-pub field_name : (registry : Registry) (schema : Columns) (ctxt : Context) (tree : Expression) (field : Field) → IsFieldOf registry schema ctxt (pruned true (settled_at_top tree)) field → field.name ≡ name_of tree
-field_name registry schema ctxt tree field is = is.name ∙ ap (λ (label : Label). label.name) (kept_label (settled_at_top tree) ∙ settled_at_top_label tree)
+pub field_name : (registry : Registry) (schema : Columns) (ctxt : Context) (tree : Expression) (field : Field) → IsFieldOf registry schema ctxt (pruned true false (settled_at_top tree)) field → field.name ≡ name_of tree
+field_name registry schema ctxt tree field is = is.name ∙ ap (λ (label : Label). label.name) (kept_label false (settled_at_top tree) ∙ settled_at_top_label tree)

@@ -16,7 +16,7 @@ use Rattle.plan_types.proofs.SchemaLemmas.{repeated_test}
 use Rattle.plan_dsl.specs.Registry.{Registry}
 use Rattle.plan_dsl.specs.Trees.{node, no_more, more}
 use Rattle.plan_dsl.specs.Ops.{Expression}
-use Rattle.plan_dsl.specs.Aliases.{core}
+use Rattle.plan_dsl.specs.Aliases.{core, spelled}
 use Rattle.plan_dsl.specs.Literals.{settled}
 use Rattle.plan_dsl.specs.Names.{name_of}
 use Rattle.plan_dsl.specs.Plans.{Plan, SourcePlan, Named, named, GroupByKind, group_by_op, source_group_by}
@@ -43,6 +43,7 @@ use Rattle.plan_arena.proofs.ItemLemmas.{any_node, named_kept, plan_added, plan_
 use Rattle.plan_dsl.specs.PlanMeaning.{by_meaning}
 use Rattle.plan_bounds.proofs.BoundLemmas.{all_within, nothing_within}
 use Rattle.plan_expand.specs.Refusals.{IsUnexpanded}
+use Rattle.plan_lower.proofs.SpelledLemmas.{typed_spelled}
 use Rattle.plan_infer.specs.KeptTypes.{AllKept, IsKept, IsRight, KeepsEntry, KeepsTyped, typed_of}
 use Rattle.plan_infer.specs.declared.type_table.Inferred.{Inferred}
 use Rattle.plan_infer.specs.declared.type_table.TypeTable.{TypeTable}
@@ -98,8 +99,9 @@ output_group_column o = (name_of o.tree, type_in_groups o.typed)
 pub outputs_kept : (registry : Registry) (schema : Columns) (first : ℕ) (items : List AExpr) (table : TypeTable) → IsRight registry schema items table → (outputs : List Output) → AllByRecursion (IsOutput registry schema first items) outputs → AllByRecursion (IsKept table) (map (λ (o : Output). o.node) outputs) → AllKept table (map (λ (o : Output). o.node) outputs) (map (λ (o : Output). o.typed) outputs)
 outputs_kept registry schema first items table right [] each kept = tt
 outputs_kept registry schema first items table right (o ∷ os) each kept =
-    let found = kept_typing registry schema items table right o.node kept.0.own kept.0.keeps (settled (core o.tree)) (any_node first items o.node (settled (core o.tree)) each.0.denotes) in
-    let typed = each.0.typed in
+    let tree = settled (spelled o.tree) in
+    let found = kept_typing registry schema items table right o.node kept.0.own kept.0.keeps tree (any_node first items o.node tree each.0.denotes) in
+    let typed = typed_spelled registry schema o.tree o.typed each.0.typed in
     (record { own = kept.0.own; keeps = kept.0.keeps; is = cc }, outputs_kept registry schema first items table right os each.1 kept.1)
 
 outputs_in_groups : (outputs : List Output) → named_in_groups (map output_node outputs) (map (λ (o : Output). o.typed) outputs) ≡ map output_group_column outputs

@@ -1,6 +1,7 @@
 -- Functions as they are lowered: horizontals over few operands, which are written out operand by operand, and the others.
-use Rattle.std.proofs.Common.{◌≡◌, ◌≢◌, ◌≤◌, ◌&&◌, ℕ, suc, Bool, true, false, List, [], ◌∷◌, ◌++◌, Option, Some, None, length, map, slice_get, refl, sym, ap, ◌∙◌, subst, arith}
+use Rattle.std.proofs.Common.{◌≡◌, ◌≢◌, ◌≤◌, ◌&&◌, ℕ, suc, Bool, true, false, not, List, [], ◌∷◌, ◌++◌, Option, Some, None, length, map, slice_get, refl, sym, ap, ◌∙◌, subst, arith}
 use Rattle.std.specs.List.{list_all}
+use Rattle.std.specs.Option.{option_map_or}
 use Rattle.std.specs.Prelude.{MatchOption}
 use Rattle.std.proofs.lemmas.Bool.{and_parts, and_right, false≢true}
 use Rattle.std.proofs.Math.Bool.{and-true}
@@ -17,7 +18,7 @@ use Rattle.plan_dsl.specs.declared.function_expr.FunctionExpr.{FunctionExpr}
 use Rattle.plan_dsl.specs.declared.function_expr.FunctionExpr.TheVariants.{AllHorizontal, AnyHorizontal, FieldByIndex}
 use Rattle.plan_dsl.specs.declared.literal.LiteralValue.{LiteralValue}
 use Rattle.plan_dsl.specs.declared.operator.Operator.{Operator}
-use Rattle.plan_dsl.specs.Aliases.{all_pruned, chain, chained, core, is_written_out, pruned, put_together, written_out}
+use Rattle.plan_dsl.specs.Aliases.{all_pruned, chain, chained, core, is_written_out, pruned, put_together, spelled, written_out}
 use Rattle.plan_dsl.specs.Expressions.{function_source, plain_tree, plain_trees, tree_of, trees_of}
 use Rattle.plan_dsl.specs.Functions.{is_expanded_function}
 use Rattle.plan_dsl.specs.Names.{Label, label_of, op_label}
@@ -30,9 +31,10 @@ use Rattle.plan_arena.specs.declared.aexpr.AExpr.{AExpr}
 use Rattle.plan_arena.specs.declared.aexpr.AExpr.TheVariants.{BinaryExpr}
 use Rattle.plan_arena.specs.declared.arena.Node.{Node}
 use Rattle.plan_arena.specs.Denotation.{Denotes}
-use Rattle.plan_arena.specs.Items.{Grows, HoldsFrom}
+use Rattle.plan_arena.specs.declared.expr_ir.OutputName.{OutputName}
+use Rattle.plan_arena.specs.Items.{Grows, HoldsFrom, output_label}
 use Rattle.plan_arena.proofs.ItemLemmas.{tree_grown}
-use Rattle.plan_lower.specs.Horizontals.{InChain, IsNamedAs, IsWrittenBy, called}
+use Rattle.plan_lower.specs.Horizontals.{InChain, IsNamedAlone, IsNamedAs, IsNamedUnder, IsWrittenBy, all_write_none, called, writes_none}
 use Rattle.plan_lower.specs.Nodes.{IsItemOf}
 use Rattle.plan_lower.proofs.NodeLemmas.{all_unwritten_from, item_denotes}
 
@@ -53,6 +55,10 @@ plain_function expr input function is plain =
     let whole = ap unwritten listed.is ∙ ap (λ op. unwritten (node op (children_from (trees_of input)))) (expanded_source function parts.0) in
     (parts.1, whole ∙ ap (node (FunctionOp function [])) (operands_of input))
 
+expanded_called : (function : FunctionExpr) (input : Exprs) → is_expanded_function function ≡ true → called function input ≡ node (FunctionOp function []) (children_from (plain_trees input))
+expanded_called function input expanded =
+    ap (λ op. unwritten (node op (children_from (trees_of input)))) (expanded_source function expanded) ∙ ap (node (FunctionOp function [])) (operands_of input)
+
 counted : (trees : List Expression) → tree_count (children_from trees) ≡ length trees
 counted [] = refl
 counted (tree ∷ trees) = ap suc (counted trees)
@@ -60,30 +66,47 @@ counted (tree ∷ trees) = ap suc (counted trees)
 pub operands_counted : (input : Exprs) → tree_count (children_from (plain_trees input)) ≡ length input.items.items
 operands_counted input = counted (plain_trees input) ∙ length-map input.items.items plain_tree
 
-all_counted : (keep : Bool) (trees : Trees Op) → tree_count (all_pruned keep trees) ≡ tree_count trees
-all_counted keep no_more = refl
-all_counted keep (more tree trees) = ap suc (all_counted keep trees)
+all_counted : (keep write : Bool) (trees : Trees Op) → tree_count (all_pruned keep write trees) ≡ tree_count trees
+all_counted keep write no_more = refl
+all_counted keep write (more tree trees) = ap suc (all_counted keep write trees)
 
-pub pruned_counted : (keep : Bool) (input : Exprs) → tree_count (all_pruned keep (children_from (plain_trees input))) ≡ length input.items.items
-pruned_counted keep input = all_counted keep (children_from (plain_trees input)) ∙ operands_counted input
+pub pruned_counted : (keep write : Bool) (input : Exprs) → tree_count (all_pruned keep write (children_from (plain_trees input))) ≡ length input.items.items
+pruned_counted keep write input = all_counted keep write (children_from (plain_trees input)) ∙ operands_counted input
 
 -- a function as a plan has it, whether it is written out or not
-abbrev as_out : Bool → FunctionExpr → Trees Op → Bool → Expression
-as_out keep function children out = put_together keep out (FunctionOp function []) (fold_all op_label children) (all_pruned (keep && out) children)
+abbrev as_out : Bool → Bool → FunctionExpr → Trees Op → Bool → Expression
+as_out keep write function children out = put_together keep out (FunctionOp function []) (fold_all op_label children) (all_pruned (keep && out) write children)
 
-pub written_chained : (keep : Bool) (function : FunctionExpr) (children : Trees Op) (count : ℕ) (operator : Operator) (nothing : Bool) → IsWrittenBy function count operator nothing → tree_count children ≡ count → chained operator nothing (all_pruned keep children) ≡ pruned keep (node (FunctionOp function []) children)
-written_chained keep function children count operator nothing written same =
-    let out = ap (is_written_out (FunctionOp function [])) same ∙ written.out in
+pub written_chained : (keep write : Bool) (function : FunctionExpr) (children : Trees Op) (count : ℕ) (operator : Operator) (nothing : Bool) → write ≡ true → IsWrittenBy function count operator nothing → tree_count children ≡ count → chained operator nothing (all_pruned keep write children) ≡ pruned keep write (node (FunctionOp function []) children)
+written_chained keep write function children count operator nothing writes written same =
+    let out = (λ i. is_written_out (writes i) (FunctionOp function []) (same i)) ∙ written.out in
     sym (
-    ap (as_out keep function children) out
-    ∙ ap (λ b. written_out (FunctionOp function []) (all_pruned b children)) (and-true keep)
-    ∙ written.by (all_pruned keep children)
+    ap (as_out keep write function children) out
+    ∙ ap (λ b. written_out (FunctionOp function []) (all_pruned b write children)) (and-true keep)
+    ∙ written.by (all_pruned keep write children)
     )
 
-pub function_stays : (keep : Bool) (function : FunctionExpr) (children : Trees Op) (count : ℕ) → is_written_out (FunctionOp function []) count ≡ false → tree_count children ≡ count → pruned keep (node (FunctionOp function []) children) ≡ node (FunctionOp function (fold_all op_label children)) (all_pruned false children)
-function_stays keep function children count stays same =
-    ap (as_out keep function children) (ap (is_written_out (FunctionOp function [])) same ∙ stays)
-    ∙ ap (λ b. node (FunctionOp function (fold_all op_label children)) (all_pruned b children)) (and_right keep false refl)
+pub function_stays : (keep write : Bool) (function : FunctionExpr) (children : Trees Op) (count : ℕ) → is_written_out write (FunctionOp function []) count ≡ false → tree_count children ≡ count → pruned keep write (node (FunctionOp function []) children) ≡ node (FunctionOp function (fold_all op_label children)) (all_pruned false write children)
+function_stays keep write function children count stays same =
+    ap (as_out keep write function children) (ap (is_written_out write (FunctionOp function [])) same ∙ stays)
+    ∙ ap (λ b. node (FunctionOp function (fold_all op_label children)) (all_pruned b write children)) (and_right keep false refl)
+
+-- ---- expressions in which none is written out
+
+pub each_writes_none : (trees : List Expression) → all_write_none (children_from trees) ≡ list_all writes_none trees
+each_writes_none [] = refl
+each_writes_none (tree ∷ trees) = ap (λ b. writes_none tree && b) (each_writes_none trees)
+
+-- a field at a place is no expression of a plan
+pub field_writes_none : (function : FunctionExpr) (input : Exprs) → is_expanded_function function ≡ false → writes_none (called function input) ≡ true
+field_writes_none (FieldByIndex place) input unexpanded = refl
+field_writes_none _ input unexpanded = absurd (false≢true (sym unexpanded))
+
+-- a function writes none where it is not written out, nor a horizontal in its operands
+pub called_writes : (function : FunctionExpr) (input : Exprs) (out : Bool) → is_expanded_function function ≡ true → is_written_out true (FunctionOp function []) (length input.items.items) ≡ out → writes_none (called function input) ≡ (not out && list_all writes_none (plain_trees input))
+called_writes function input out expanded is =
+    ap writes_none (expanded_called function input expanded)
+    ∙ (λ i. not ((ap (is_written_out true (FunctionOp function [])) (operands_counted input) ∙ is) i) && each_writes_none (plain_trees input) i)
 
 -- ---- chains, operand by operand
 
@@ -130,14 +153,14 @@ chain_grown operator from old new all left (Some top) grows before =
     (before.0, before.1, before.2, before.3, before.4, tree_grown from from old new (omega arith) grows top.0 before.2 before.5)
 
 -- one more operand is there to be put behind it
-pub chain_next : (operator : Operator) (from : ℕ) (keep : Bool) (old new : List AExpr) (all : Trees Op) (left rest : List Expr) (expr : Expr) (so_far : Option Node) → InChain operator from old all (all_pruned keep (children_from (map plain_tree left))) so_far → left ≡ expr ∷ rest → Grows old new → InChain operator from new all (more (pruned keep (plain_tree expr)) (all_pruned keep (children_from (map plain_tree rest)))) so_far
-chain_next operator from keep old new all left rest expr so_far before is grows =
-    let here = subst (λ exprs. InChain operator from old all (all_pruned keep (children_from (map plain_tree exprs))) so_far) is before in
-    chain_grown operator from old new all (more (pruned keep (plain_tree expr)) (all_pruned keep (children_from (map plain_tree rest)))) so_far grows here
+pub chain_next : (operator : Operator) (from : ℕ) (keep write : Bool) (old new : List AExpr) (all : Trees Op) (left rest : List Expr) (expr : Expr) (so_far : Option Node) → InChain operator from old all (all_pruned keep write (children_from (map plain_tree left))) so_far → left ≡ expr ∷ rest → Grows old new → InChain operator from new all (more (pruned keep write (plain_tree expr)) (all_pruned keep write (children_from (map plain_tree rest)))) so_far
+chain_next operator from keep write old new all left rest expr so_far before is grows =
+    let here = subst (λ exprs. InChain operator from old all (all_pruned keep write (children_from (map plain_tree exprs))) so_far) is before in
+    chain_grown operator from old new all (more (pruned keep write (plain_tree expr)) (all_pruned keep write (children_from (map plain_tree rest)))) so_far grows here
 
 -- and none is left at the end
-pub chain_end : (operator : Operator) (from : ℕ) (keep : Bool) (items : List AExpr) (all : Trees Op) (left : List Expr) (so_far : Option Node) → InChain operator from items all (all_pruned keep (children_from (map plain_tree left))) so_far → left ≡ [] → InChain operator from items all no_more so_far
-chain_end operator from keep items all left so_far before none = subst (λ exprs. InChain operator from items all (all_pruned keep (children_from (map plain_tree exprs))) so_far) none before
+pub chain_end : (operator : Operator) (from : ℕ) (keep write : Bool) (items : List AExpr) (all : Trees Op) (left : List Expr) (so_far : Option Node) → InChain operator from items all (all_pruned keep write (children_from (map plain_tree left))) so_far → left ≡ [] → InChain operator from items all no_more so_far
+chain_end operator from keep write items all left so_far before none = subst (λ exprs. InChain operator from items all (all_pruned keep write (children_from (map plain_tree exprs))) so_far) none before
 
 -- ---- names
 
@@ -145,20 +168,40 @@ chained_label : (operator : Operator) (nothing : Bool) (tree : Expression) (tree
 chained_label operator nothing tree no_more = refl
 chained_label operator nothing tree (more next rest) = chain_label operator tree (more next rest)
 
-horizontal_label : (function : FunctionExpr) (count : ℕ) (tree : Expression) (trees : Trees Op) → is_written_out (FunctionOp function []) count ≡ true → label_of (node (FunctionOp function []) (more tree trees)) ≡ label_of tree
+horizontal_label : (function : FunctionExpr) (count : ℕ) (tree : Expression) (trees : Trees Op) → is_written_out true (FunctionOp function []) count ≡ true → label_of (node (FunctionOp function []) (more tree trees)) ≡ label_of tree
 horizontal_label AllHorizontal count tree trees out = refl
 horizontal_label AnyHorizontal count tree trees out = refl
 horizontal_label _ count tree trees out = absurd (false≢true out)
 
-written_source : (function : FunctionExpr) (count : ℕ) → is_written_out (FunctionOp function []) count ≡ true → function_source function ≡ Plain (FunctionOp function [])
+written_source : (function : FunctionExpr) (count : ℕ) → is_written_out true (FunctionOp function []) count ≡ true → function_source function ≡ Plain (FunctionOp function [])
 written_source (FieldByIndex place) count out = absurd (false≢true out)
 written_source _ count out = refl
+
+-- a function that stays has the name that it has recorded
+recorded_label : (write : Bool) (function : FunctionExpr) (children : Trees Op) → label_of (node (FunctionOp function []) children) ≡ label_of (node (FunctionOp function (fold_all op_label children)) (all_pruned false write children))
+recorded_label write function no_more = refl
+recorded_label write function (more tree trees) = refl
+
+stays_label : (write : Bool) (function : FunctionExpr) (children : Trees Op) (count : ℕ) → is_written_out write (FunctionOp function []) count ≡ false → tree_count children ≡ count → label_of (node (FunctionOp function []) children) ≡ label_of (pruned false write (node (FunctionOp function []) children))
+stays_label write function children count stays same =
+    recorded_label write function children ∙ ap label_of (sym (function_stays false write function children count stays same))
+
+source_label : (write : Bool) (function : FunctionExpr) (sources : Trees SourceOp) (count : ℕ) → is_written_out write (FunctionOp function []) count ≡ false → tree_count (all_unwritten sources) ≡ count → label_of (unwritten (node (function_source function) sources)) ≡ label_of (pruned false write (unwritten (node (function_source function) sources)))
+source_label write (FieldByIndex place) sources count stays same = refl
+source_label write function sources count stays same = stays_label write function (all_unwritten sources) count stays same
+
+pub stays_named : (function : FunctionExpr) (input : Exprs) → is_written_out true (FunctionOp function []) (length input.items.items) ≡ false → IsNamedAlone (called function input)
+stays_named function input stays =
+    let sources = children_from (trees_of input) in
+    let count = ap tree_count (operands_of input) ∙ operands_counted input in
+    (source_label false function sources (length input.items.items) refl count, source_label true function sources (length input.items.items) stays count)
 
 -- the name of one that is written out is that of its first operand, with aliases and without
 first_named : (function : FunctionExpr) (operator : Operator) (nothing : Bool) (tree : Expression) (trees : Trees Op) → IsWrittenBy function (tree_count (more tree trees)) operator nothing → IsNamedAs (node (FunctionOp function []) (more tree trees)) tree
 first_named function operator nothing tree trees written = record {
   own = horizontal_label function (tree_count (more tree trees)) tree trees written.out;
-  without = ap label_of (sym (written_chained false function (more tree trees) (tree_count (more tree trees)) operator nothing written refl)) ∙ chained_label operator nothing (core tree) (all_pruned false trees);
+  kept = stays_label false function (more tree trees) (tree_count (more tree trees)) refl refl;
+  without = ap label_of (sym (written_chained false true function (more tree trees) (tree_count (more tree trees)) operator nothing refl written refl)) ∙ chained_label operator nothing (spelled tree) (all_pruned false true trees);
 }
 
 written_called : (function : FunctionExpr) (input : Exprs) (operator : Operator) (nothing : Bool) → IsWrittenBy function (length input.items.items) operator nothing → called function input ≡ node (FunctionOp function []) (children_from (plain_trees input))
@@ -180,43 +223,32 @@ written_first function input operator nothing first written at =
     subst (λ t. IsNamedAs t (plain_tree first)) (sym (written_called function input operator nothing written)) (over_first function operator nothing input.items.items first written at)
 
 -- over none it has that of a literal
-nothing_label : (function : FunctionExpr) (operator : Operator) (nothing : Bool) → IsWrittenBy function 0 operator nothing → label_of (node (FunctionOp function []) no_more) ≡ label_of (core (node (FunctionOp function []) no_more))
-nothing_label AllHorizontal operator nothing written = refl
-nothing_label AnyHorizontal operator nothing written = refl
-nothing_label _ operator nothing written = absurd (false≢true written.out)
+nothing_named : (function : FunctionExpr) (operator : Operator) (nothing : Bool) → IsWrittenBy function 0 operator nothing → IsNamedAlone (node (FunctionOp function []) no_more)
+nothing_named AllHorizontal operator nothing written = (refl, refl)
+nothing_named AnyHorizontal operator nothing written = (refl, refl)
+nothing_named _ operator nothing written = absurd (false≢true written.out)
 
-over_nothing : (function : FunctionExpr) (operator : Operator) (nothing : Bool) (exprs : List Expr) → IsWrittenBy function (length exprs) operator nothing → exprs ≡ [] → label_of (node (FunctionOp function []) (children_from (map plain_tree exprs))) ≡ label_of (core (node (FunctionOp function []) (children_from (map plain_tree exprs))))
-over_nothing function operator nothing [] written none = nothing_label function operator nothing written
+over_nothing : (function : FunctionExpr) (operator : Operator) (nothing : Bool) (exprs : List Expr) → IsWrittenBy function (length exprs) operator nothing → exprs ≡ [] → IsNamedAlone (node (FunctionOp function []) (children_from (map plain_tree exprs)))
+over_nothing function operator nothing [] written none = nothing_named function operator nothing written
 over_nothing function operator nothing (expr ∷ exprs) written none = cc
 
-pub written_nothing : (function : FunctionExpr) (input : Exprs) (operator : Operator) (nothing : Bool) → IsWrittenBy function (length input.items.items) operator nothing → input.items.items ≡ [] → label_of (called function input) ≡ label_of (core (called function input))
+pub written_nothing : (function : FunctionExpr) (input : Exprs) (operator : Operator) (nothing : Bool) → IsWrittenBy function (length input.items.items) operator nothing → input.items.items ≡ [] → IsNamedAlone (called function input)
 written_nothing function input operator nothing written none =
-    subst (λ t. label_of t ≡ label_of (core t)) (sym (written_called function input operator nothing written)) (over_nothing function operator nothing input.items.items written none)
-
--- and one that stays has that which it has recorded
-recorded_label : (function : FunctionExpr) (children : Trees Op) → label_of (node (FunctionOp function []) children) ≡ label_of (node (FunctionOp function (fold_all op_label children)) (all_pruned false children))
-recorded_label function no_more = refl
-recorded_label function (more tree trees) = refl
-
-stays_label : (function : FunctionExpr) (children : Trees Op) (count : ℕ) → is_written_out (FunctionOp function []) count ≡ false → tree_count children ≡ count → label_of (node (FunctionOp function []) children) ≡ label_of (core (node (FunctionOp function []) children))
-stays_label function children count stays same = recorded_label function children ∙ ap label_of (sym (function_stays false function children count stays same))
-
-source_label : (function : FunctionExpr) (sources : Trees SourceOp) (count : ℕ) → is_written_out (FunctionOp function []) count ≡ false → tree_count (all_unwritten sources) ≡ count → label_of (unwritten (node (function_source function) sources)) ≡ label_of (core (unwritten (node (function_source function) sources)))
-source_label (FieldByIndex place) sources count stays same = refl
-source_label function sources count stays same = stays_label function (all_unwritten sources) count stays same
-
-pub stays_named : (function : FunctionExpr) (input : Exprs) → is_written_out (FunctionOp function []) (length input.items.items) ≡ false → label_of (called function input) ≡ label_of (core (called function input))
-stays_named function input stays =
-    source_label function (children_from (trees_of input)) (length input.items.items) stays (ap tree_count (operands_of input) ∙ operands_counted input)
+    subst IsNamedAlone (sym (written_called function input operator nothing written)) (over_nothing function operator nothing input.items.items written none)
 
 -- the name of an expression that has another's is that one's, and so is the alias that gives it
 pub called_as : (expr first : Expr) (input : Exprs) (function : FunctionExpr) → expr ≡ Function input function → IsNamedAs (called function input) (plain_tree first) → IsNamedAs (plain_tree expr) (plain_tree first)
 called_as expr first input function is named =
     subst (λ t. IsNamedAs t (plain_tree first)) (sym (ap unwritten (function_listed expr input function is).is)) named
 
-pub called_alone : (expr : Expr) (input : Exprs) (function : FunctionExpr) → expr ≡ Function input function → label_of (called function input) ≡ label_of (core (called function input)) → label_of (plain_tree expr) ≡ label_of (core (plain_tree expr))
-called_alone expr input function is named = subst (λ t. label_of t ≡ label_of (core t)) (sym (ap unwritten (function_listed expr input function is).is)) named
+pub called_alone : (expr : Expr) (input : Exprs) (function : FunctionExpr) → expr ≡ Function input function → IsNamedAlone (called function input) → IsNamedAlone (plain_tree expr)
+called_alone expr input function is named = subst IsNamedAlone (sym (ap unwritten (function_listed expr input function is).is)) named
 
-pub alias_as : {N : Type 0} (name : N → Label) (tree other : Expression) (found : Option N) → IsNamedAs tree other → MatchOption found (label_of other ≡ label_of (core other)) (λ n. label_of other ≡ name n) → MatchOption found (label_of tree ≡ label_of (core tree)) (λ n. label_of tree ≡ name n)
-alias_as name tree other None named alone = named.own ∙ alone ∙ sym named.without
+pub alias_as : {N : Type 0} (name : N → Label) (tree other : Expression) (found : Option N) → IsNamedAs tree other → MatchOption found (IsNamedAlone other) (λ n. label_of other ≡ name n) → MatchOption found (IsNamedAlone tree) (λ n. label_of tree ≡ name n)
+alias_as name tree other None named alone = (named.kept, named.own ∙ alone.1 ∙ sym named.without)
 alias_as name tree other (Some n) named alias = named.own ∙ alias
+
+-- what names an expression names it with its horizontals written out or not
+pub named_under : (write : Bool) (alias : Option OutputName) (tree : Expression) → IsNamedUnder alias tree → label_of tree ≡ option_map_or output_label alias (label_of (pruned false write tree))
+named_under true alias tree named = named.1
+named_under false alias tree named = named.0

@@ -10,5 +10,6 @@ pub mod PlanLemmas
 pub mod ProjectionLemmas
 pub mod RecordedLemmas
 mod RecordingLemmas
+mod SpelledLemmas
 mod StepLemmas
 mod TopNumberLemmas

@@ -74,17 +74,17 @@ item_denotes first last new tree item n le of grown at =
     subst (Denotes (HoldsFrom first new) n) (sym of.is) (added_denotes first last new item n (op_of l) (inputs_of l) of.operands le grown at (layer_parts l) operands)
 
 -- an expression that is neither an alias nor a function is what it is over its inputs
-pub pruned_item : (keep : Bool) (expr : Expr) → ((below : _) (name : _) → expr ≢ Alias below name) → ((input : _) (function : _) → expr ≢ Function input function) → over_inputs keep (plain_tree expr) ≡ pruned keep (plain_tree expr)
+pub pruned_item : (keep write : Bool) (expr : Expr) → ((below : _) (name : _) → expr ≢ Alias below name) → ((input : _) (function : _) → expr ≢ Function input function) → over_inputs keep write (plain_tree expr) ≡ pruned keep write (plain_tree expr)
 unfolding declared.roll-Expr denote.Hole.Carrier.roll declared.out-Expr denote.Hole.Carrier.out
-pruned_item keep (Alias' p below name) alias function = absurd (alias _ name refl)
-pruned_item keep (Function' shape input called) alias function = absurd (function _ called (sym (rolls-Function _ called ∙ roll-out-Expr (Function' shape input called))))
-pruned_item true _ alias function = refl
-pruned_item false _ alias function = refl
+pruned_item keep write (Alias' p below name) alias function = absurd (alias _ name refl)
+pruned_item keep write (Function' shape input called) alias function = absurd (function _ called (sym (rolls-Function _ called ∙ roll-out-Expr (Function' shape input called))))
+pruned_item true write _ alias function = refl
+pruned_item false write _ alias function = refl
 
 -- and an alias is, or what stands under it
-pub pruned_alias : (keep : Bool) (name : Name) (tree : Expression) → prune_node keep (AliasOp name) (more (pruned keep tree) no_more) ≡ pruned keep (node (AliasOp name) (more tree no_more))
-pruned_alias true name tree = refl
-pruned_alias false name tree = refl
+pub pruned_alias : (keep write : Bool) (name : Name) (tree : Expression) → prune_node keep (AliasOp name) (more (pruned keep write tree) no_more) ≡ pruned keep write (node (AliasOp name) (more tree no_more))
+pruned_alias true write name tree = refl
+pruned_alias false write name tree = refl
 
 -- a function is not over several inputs, be it of its name or of a field's place
 function_several : (function : FunctionExpr) → has_several (function_source function) ≡ true → ⊥
@@ -149,35 +149,36 @@ each_plain (expr ∷ exprs) plain =
     let parts = and_parts (is_plain (tree_of expr)) (list_all is_plain (map tree_of exprs)) plain in
     (parts.0, each_plain exprs parts.1)
 
--- nodes of these numbers, from one on, denote the expressions in front of those that are left, with their aliases or without
-pub record Adding (first : ℕ) (keep : Bool) (items : List AExpr) (all left : List Expression) (ns : List ℕ) : Type 0 where
+-- nodes of these numbers, from one on, denote the expressions in front of those that are left, with their aliases or without,
+-- and with horizontals written out or not
+pub record Adding (first : ℕ) (keep write : Bool) (items : List AExpr) (all left : List Expression) (ns : List ℕ) : Type 0 where
   pub done : List Expression
   pub split : all ≡ done ++ left
-  pub denote : DenoteAll (HoldsFrom first items) ns (all_pruned keep (children_from done))
+  pub denote : DenoteAll (HoldsFrom first items) ns (all_pruned keep write (children_from done))
 
-one_more : (first : ℕ) (keep : Bool) (items : List AExpr) (ns : List ℕ) (ts : List Expression) (n : ℕ) (t : Expression) → DenoteAll (HoldsFrom first items) ns (all_pruned keep (children_from ts)) → Denotes (HoldsFrom first items) n (pruned keep t) → DenoteAll (HoldsFrom first items) (ns ++ n ∷ []) (all_pruned keep (children_from (ts ++ t ∷ [])))
-one_more first keep items [] [] n t d one = (one, tt)
-one_more first keep items (m ∷ ms) (u ∷ us) n t d one = (d.0, one_more first keep items ms us n t d.1 one)
-one_more first keep items [] (u ∷ us) n t d one = absurd d
-one_more first keep items (m ∷ ms) [] n t d one = absurd d
+one_more : (first : ℕ) (keep write : Bool) (items : List AExpr) (ns : List ℕ) (ts : List Expression) (n : ℕ) (t : Expression) → DenoteAll (HoldsFrom first items) ns (all_pruned keep write (children_from ts)) → Denotes (HoldsFrom first items) n (pruned keep write t) → DenoteAll (HoldsFrom first items) (ns ++ n ∷ []) (all_pruned keep write (children_from (ts ++ t ∷ [])))
+one_more first keep write items [] [] n t d one = (one, tt)
+one_more first keep write items (m ∷ ms) (u ∷ us) n t d one = (d.0, one_more first keep write items ms us n t d.1 one)
+one_more first keep write items [] (u ∷ us) n t d one = absurd d
+one_more first keep write items (m ∷ ms) [] n t d one = absurd d
 
-pub adding_start : (first : ℕ) (keep : Bool) (items : List AExpr) (all : List Expression) (ns : List ℕ) → ns ≡ [] → Adding first keep items all all ns
-adding_start first keep items all ns none = record { done = []; split = refl; denote = subst (λ ns. DenoteAll (HoldsFrom first items) ns no_more) (sym none) tt }
+pub adding_start : (first : ℕ) (keep write : Bool) (items : List AExpr) (all : List Expression) (ns : List ℕ) → ns ≡ [] → Adding first keep write items all all ns
+adding_start first keep write items all ns none = record { done = []; split = refl; denote = subst (λ ns. DenoteAll (HoldsFrom first items) ns no_more) (sym none) tt }
 
-pub adding_step : (first : ℕ) (keep : Bool) (mid new : List AExpr) (all left rest : List Expression) (ns longer : List ℕ) (tree : Expression) (top : ℕ) → Adding first keep mid all left ns → left ≡ tree ∷ rest → first ≤ length mid → Grows mid new → Denotes (HoldsFrom (length mid) new) top (pruned keep tree) → longer ≡ ns ++ top ∷ [] → Adding first keep new all rest longer
-adding_step first keep mid new all left rest ns longer tree top before is le grows one pushed =
-    let earlier = all_grown first first mid new ns (all_pruned keep (children_from before.done)) (omega arith) grows before.denote in
-    let here = tree_grown (length mid) first new new le (nothing_added new) top (pruned keep tree) one in
+pub adding_step : (first : ℕ) (keep write : Bool) (mid new : List AExpr) (all left rest : List Expression) (ns longer : List ℕ) (tree : Expression) (top : ℕ) → Adding first keep write mid all left ns → left ≡ tree ∷ rest → first ≤ length mid → Grows mid new → Denotes (HoldsFrom (length mid) new) top (pruned keep write tree) → longer ≡ ns ++ top ∷ [] → Adding first keep write new all rest longer
+adding_step first keep write mid new all left rest ns longer tree top before is le grows one pushed =
+    let earlier = all_grown first first mid new ns (all_pruned keep write (children_from before.done)) (omega arith) grows before.denote in
+    let here = tree_grown (length mid) first new new le (nothing_added new) top (pruned keep write tree) one in
     record {
       done = before.done ++ tree ∷ [];
       split = before.split ∙ ap (λ l. before.done ++ l) is ∙ sym (append_assoc before.done (tree ∷ []) rest);
-      denote = subst (λ ns. DenoteAll (HoldsFrom first new) ns (all_pruned keep (children_from (before.done ++ tree ∷ [])))) (sym pushed) (one_more first keep new ns before.done top tree earlier here);
+      denote = subst (λ ns. DenoteAll (HoldsFrom first new) ns (all_pruned keep write (children_from (before.done ++ tree ∷ [])))) (sym pushed) (one_more first keep write new ns before.done top tree earlier here);
     }
 
-pub adding_end : (first : ℕ) (keep : Bool) (items : List AExpr) (all left : List Expression) (ns : List ℕ) → Adding first keep items all left ns → left ≡ [] → DenoteAll (HoldsFrom first items) ns (all_pruned keep (children_from all))
-adding_end first keep items all left ns added none =
+pub adding_end : (first : ℕ) (keep write : Bool) (items : List AExpr) (all left : List Expression) (ns : List ℕ) → Adding first keep write items all left ns → left ≡ [] → DenoteAll (HoldsFrom first items) ns (all_pruned keep write (children_from all))
+adding_end first keep write items all left ns added none =
     let whole = added.split ∙ ap (λ l. added.done ++ l) none ∙ append-nil added.done in
-    subst (λ ts. DenoteAll (HoldsFrom first items) ns (all_pruned keep (children_from ts))) (sym whole) added.denote
+    subst (λ ts. DenoteAll (HoldsFrom first items) ns (all_pruned keep write (children_from ts))) (sym whole) added.denote
 
 -- an item over one input, and a list of inputs that were added after it
 pub over_listed : (old mid last : List AExpr) (tree : Expression) (item : AExpr) (n : ℕ) (ns : List ℕ) (t : Expression) (ts : Trees Op) → tree ≡ node (op_of (expression_layer item)) (more t ts) → inputs_of (expression_layer item) ≡ n ∷ ns → Denotes (HoldsFrom (length old) mid) n t → Grows old mid → DenoteAll (HoldsFrom (length mid) last) ns ts → Grows mid last → IsItemOf (length old) last tree item
@@ -186,15 +187,15 @@ over_listed old mid last tree item n ns t ts is listed first grows rest later =
     record { operands = more t ts; is = is; denote = subst (λ inputs. DenoteAll (HoldsFrom (length old) last) inputs (more t ts)) (sym listed) all }
 
 -- one over an input, and two lists of inputs that were added one after the other
-both_denote : (first : ℕ) (keep : Bool) (items : List AExpr) (ns ms : List ℕ) (xs ys : List Expression) → DenoteAll (HoldsFrom first items) ns (all_pruned keep (children_from xs)) → DenoteAll (HoldsFrom first items) ms (all_pruned keep (children_from ys)) → DenoteAll (HoldsFrom first items) (ns ++ ms) (all_pruned keep (children_from (xs ++ ys)))
-both_denote first keep items [] ms [] ys d e = e
-both_denote first keep items (n ∷ ns) ms (x ∷ xs) ys d e = (d.0, both_denote first keep items ns ms xs ys d.1 e)
-both_denote first keep items [] ms (x ∷ xs) ys d e = absurd d
-both_denote first keep items (n ∷ ns) ms [] ys d e = absurd d
+both_denote : (first : ℕ) (keep write : Bool) (items : List AExpr) (ns ms : List ℕ) (xs ys : List Expression) → DenoteAll (HoldsFrom first items) ns (all_pruned keep write (children_from xs)) → DenoteAll (HoldsFrom first items) ms (all_pruned keep write (children_from ys)) → DenoteAll (HoldsFrom first items) (ns ++ ms) (all_pruned keep write (children_from (xs ++ ys)))
+both_denote first keep write items [] ms [] ys d e = e
+both_denote first keep write items (n ∷ ns) ms (x ∷ xs) ys d e = (d.0, both_denote first keep write items ns ms xs ys d.1 e)
+both_denote first keep write items [] ms (x ∷ xs) ys d e = absurd d
+both_denote first keep write items (n ∷ ns) ms [] ys d e = absurd d
 
-pub over_both : (keep : Bool) (old mid later last : List AExpr) (tree : Expression) (item : AExpr) (n : ℕ) (ns ms : List ℕ) (t : Expression) (xs ys : List Expression) → tree ≡ node (op_of (expression_layer item)) (more t (all_pruned keep (children_from (xs ++ ys)))) → inputs_of (expression_layer item) ≡ n ∷ (ns ++ ms)
-    → Denotes (HoldsFrom (length old) mid) n t → Grows old mid → DenoteAll (HoldsFrom (length mid) later) ns (all_pruned keep (children_from xs)) → Grows mid later → DenoteAll (HoldsFrom (length later) last) ms (all_pruned keep (children_from ys)) → Grows later last → IsItemOf (length old) last tree item
-over_both keep old mid later last tree item n ns ms t xs ys is listed first grows orders more_grow keys rest_grow =
-    let front = all_grown (length mid) (length mid) later last ns (all_pruned keep (children_from xs)) (omega arith) rest_grow orders in
-    let back = all_grown (length later) (length mid) last last ms (all_pruned keep (children_from ys)) (length-grown mid later more_grow) (nothing_added last) keys in
-    over_listed old mid last tree item n (ns ++ ms) t (all_pruned keep (children_from (xs ++ ys))) is listed first grows (both_denote (length mid) keep last ns ms xs ys front back) (grows_then mid later last more_grow rest_grow)
+pub over_both : (keep write : Bool) (old mid later last : List AExpr) (tree : Expression) (item : AExpr) (n : ℕ) (ns ms : List ℕ) (t : Expression) (xs ys : List Expression) → tree ≡ node (op_of (expression_layer item)) (more t (all_pruned keep write (children_from (xs ++ ys)))) → inputs_of (expression_layer item) ≡ n ∷ (ns ++ ms)
+    → Denotes (HoldsFrom (length old) mid) n t → Grows old mid → DenoteAll (HoldsFrom (length mid) later) ns (all_pruned keep write (children_from xs)) → Grows mid later → DenoteAll (HoldsFrom (length later) last) ms (all_pruned keep write (children_from ys)) → Grows later last → IsItemOf (length old) last tree item
+over_both keep write old mid later last tree item n ns ms t xs ys is listed first grows orders more_grow keys rest_grow =
+    let front = all_grown (length mid) (length mid) later last ns (all_pruned keep write (children_from xs)) (omega arith) rest_grow orders in
+    let back = all_grown (length later) (length mid) last last ms (all_pruned keep write (children_from ys)) (length-grown mid later more_grow) (nothing_added last) keys in
+    over_listed old mid last tree item n (ns ++ ms) t (all_pruned keep write (children_from (xs ++ ys))) is listed first grows (both_denote (length mid) keep write last ns ms xs ys front back) (grows_then mid later last more_grow rest_grow)

@@ -15,7 +15,7 @@ use Rattle.plan_dsl.specs.Ops.{Expression}
 use Rattle.plan_dsl.specs.Strictness.{IsStrict}
 use Rattle.plan_dsl.specs.Names.{Label, label_of, name_of}
 use Rattle.plan_dsl.specs.Plans.{Named}
-use Rattle.plan_dsl.specs.Aliases.{core}
+use Rattle.plan_dsl.specs.Aliases.{core, spelled}
 use Rattle.plan_dsl.specs.Literals.{settled}
 use Rattle.plan_dsl.proofs.LiteralLemmas.{settled_known}
 use Rattle.plan_dsl.specs.Typing.{typing}
@@ -35,6 +35,7 @@ use Rattle.plan_bounds.specs.LoweredPlans.{has_wide_horizontals}
 use Rattle.plan_bounds.proofs.WideLemmas.{written_wide}
 use Rattle.plan_infer.proofs.TableLemmas.{still_kept}
 use Rattle.plan_infer.specs.KeptTypes.{IsKept, Extends}
+use Rattle.plan_lower.proofs.SpelledLemmas.{typed_core, typed_spelled}
 use Rattle.plan_lower.specs.Nodes.{KeepsExpressions}
 use Rattle.plan_lower.specs.Outputs.{Lowered, lowered_named, lowered_column, IsLowered, HasOutputs}
 use Rattle.plan_infer.specs.declared.type_table.TypeTable.{TypeTable}
@@ -61,13 +62,13 @@ abbrev record_of : Label → ℕ → Named ℕ
 record_of label expression = record { label = label; expression = expression }
 
 -- a node of an expression that has a type, and a column of its name
-pub adds_output : (registry : Registry) (schema : Columns) (first : ℕ) (items : List AExpr) (tree : Expression) (node : Named ℕ) (asked : ℕ) (old new : Columns) (seen copy : Name) (type : Ty) → node.label ≡ label_of tree → Denotes (HoldsFrom first items) node.expression (settled (core tree)) → NamesOperands (settled (core tree)) → IsTrue (has_wide_horizontals (settled (core tree))) → asked ≡ node.expression → ((t : Expression) → Denotes (HoldsExpression items) asked t → HasType (typing registry schema t) type) → is_some (type_at old seen) ≡ false → seen ≡ node.label.name → copy ≡ node.label.name → new ≡ with_column old copy type → AddsOutput registry schema first items tree node old new
+pub adds_output : (registry : Registry) (schema : Columns) (first : ℕ) (items : List AExpr) (tree : Expression) (node : Named ℕ) (asked : ℕ) (old new : Columns) (seen copy : Name) (type : Ty) → node.label ≡ label_of tree → Denotes (HoldsFrom first items) node.expression (settled (spelled tree)) → NamesOperands (settled (spelled tree)) → IsTrue (has_wide_horizontals (settled (spelled tree))) → asked ≡ node.expression → ((t : Expression) → Denotes (HoldsExpression items) asked t → HasType (typing registry schema t) type) → is_some (type_at old seen) ≡ false → seen ≡ node.label.name → copy ≡ node.label.name → new ≡ with_column old copy type → AddsOutput registry schema first items tree node old new
 adds_output registry schema first items tree node asked old new seen copy type label d names wide at typed absent s c e =
     let name = ap (λ (l : Label). l.name) label in
-    let has = typed (settled (core tree)) (subst (λ k. Denotes (HoldsExpression items) k (settled (core tree))) (sym at) (any_node first items node.expression (settled (core tree)) d)) in
+    let has = typed (settled (spelled tree)) (subst (λ k. Denotes (HoldsExpression items) k (settled (spelled tree))) (sym at) (any_node first items node.expression (settled (spelled tree)) d)) in
     record {
       output = record { tree = tree; node = node.expression; typed = record { type = type; many = has.many } };
-      is = record { denotes = d; typed = has.is; names = names; wide = wide };
+      is = record { denotes = d; typed = typed_core registry schema tree _ has.is; names = names; wide = wide };
       tree_is = refl;
       node_is = ap (λ n. record_of n node.expression) (sym label);
       new_name = no_type (type_at old (name_of tree)) (ap (λ n. is_some (type_at old n)) (sym (s ∙ name)) ∙ absent);
@@ -78,7 +79,7 @@ adds_output registry schema first items tree node asked old new seen copy type l
 outputs_grown : (registry : Registry) (schema : Columns) (first : ℕ) (items grown : List AExpr) → Grows items grown → (outputs : List Output) → AllByRecursion (IsOutput registry schema first items) outputs → AllByRecursion (IsOutput registry schema first grown) outputs
 outputs_grown registry schema first items grown g [] all = tt
 outputs_grown registry schema first items grown g (o ∷ os) all =
-    (record { denotes = tree_grown first first items grown (omega arith) g o.node (settled (core o.tree)) all.0.denotes; typed = all.0.typed; names = all.0.names; wide = all.0.wide }, outputs_grown registry schema first items grown g os all.1)
+    (record { denotes = tree_grown first first items grown (omega arith) g o.node (settled (spelled o.tree)) all.0.denotes; typed = all.0.typed; names = all.0.names; wide = all.0.wide }, outputs_grown registry schema first items grown g os all.1)
 
 all_pushed : (P : Output → Type 0) (os : List Output) (o : Output) → AllByRecursion P os → P o → AllByRecursion P (os ++ o ∷ [])
 all_pushed P [] o all p = (p, tt)
@@ -106,7 +107,7 @@ projecting_step registry schema first items grown whole before rest tree nodes n
     let o = a.output in
     let outputs = p.projects.outputs in
     let nothing : Grows grown grown = record { added = []; longer = sym (append-nil grown) } in
-    let lower = tree_grown (length items) first grown grown le nothing o.node (settled (core o.tree)) a.is.denotes in
+    let lower = tree_grown (length items) first grown grown le nothing o.node (settled (spelled o.tree)) a.is.denotes in
     record {
       front = p.front ++ tree ∷ [];
       projects = record {
@@ -155,7 +156,8 @@ pub roots_typed : (registry : Registry) (schema : Columns) (lower first : ℕ) (
 roots_typed registry schema lower first items le [] all = tt
 roots_typed registry schema lower first items le (o ∷ os) all =
     let nothing : Grows items items = record { added = []; longer = sym (append-nil items) } in
-    (record { tree = settled (core o.tree); denotes = tree_grown first lower items items le nothing o.node (settled (core o.tree)) all.0.denotes; has = record { typed = o.typed; is = all.0.typed; known = settled_known registry schema (core o.tree) o.typed all.0.typed } }, roots_typed registry schema lower first items le os all.1)
+    let typed = typed_spelled registry schema o.tree o.typed all.0.typed in
+    (record { tree = settled (spelled o.tree); denotes = tree_grown first lower items items le nothing o.node (settled (spelled o.tree)) all.0.denotes; has = record { typed = o.typed; is = typed; known = settled_known registry schema (spelled o.tree) o.typed typed } }, roots_typed registry schema lower first items le os all.1)
 
 -- the outputs with what stands for them after coercion
 record HasLowered (registry : Registry) (schema : Columns) (items : List AExpr) (outputs : List Output) : Type 0 where
@@ -168,9 +170,11 @@ record HasLowered (registry : Registry) (schema : Columns) (items : List AExpr) 
 -- what stands for one output after coercion
 lowered_as : (registry : Registry) (schema : Columns) (first : ℕ) (old new : List AExpr) (o : Output) → IsOutput registry schema first old o → ((t : Expression) → Denotes (HoldsExpression old) o.node t → IsWrittenOut registry schema new o.node t) → (after : Expression) × IsLowered registry schema (record { tree = o.tree; typed = o.typed; after = after }) × Denotes (HoldsExpression new) o.node after
 lowered_as registry schema first old new o is each =
-    let w = each (settled (core o.tree)) (any_node first old o.node (settled (core o.tree)) is.denotes) in
-    let names = subst NamesOperands (sym w.is) (written_names registry schema (settled (core o.tree)) o.typed is.typed is.names) in
-    let wide = subst (λ t. IsTrue (has_wide_horizontals t)) (sym w.is) (written_wide registry schema (settled (core o.tree)) o.typed is.typed is.wide) in
+    let tree = settled (spelled o.tree) in
+    let typed = typed_spelled registry schema o.tree o.typed is.typed in
+    let w = each tree (any_node first old o.node tree is.denotes) in
+    let names = subst NamesOperands (sym w.is) (written_names registry schema tree o.typed typed is.names) in
+    let wide = subst (λ t. IsTrue (has_wide_horizontals t)) (sym w.is) (written_wide registry schema tree o.typed typed is.wide) in
     (w.tree, record { typed = is.typed; same = w.same; strict = w.strict; casts = w.is; names = names; wide = wide }, w.denotes)
 
 has_lowered : (registry : Registry) (schema : Columns) (first : ℕ) (old new : List AExpr) → (outputs : List Output) → AllByRecursion (IsOutput registry schema first old) outputs → AllByRecursion (λ n. (t : Expression) → Denotes (HoldsExpression old) n t → IsWrittenOut registry schema new n t) (map (λ (o : Output). o.node) outputs) → HasLowered registry schema new outputs
@@ -200,10 +204,10 @@ has_outputs registry schema first old new trees nodes columns p coerced =
     }
 
 -- one output that has a type
-pub one_output : (registry : Registry) (schema : Columns) (first : ℕ) (items : List AExpr) (tree : Expression) (n asked : ℕ) (type : Ty) → Denotes (HoldsFrom first items) n (settled (core tree)) → NamesOperands (settled (core tree)) → IsTrue (has_wide_horizontals (settled (core tree))) → asked ≡ n → ((t : Expression) → Denotes (HoldsExpression items) asked t → HasType (typing registry schema t) type) → (many : Bool) × IsOutput registry schema first items (record { tree = tree; node = n; typed = record { type = type; many = many } })
+pub one_output : (registry : Registry) (schema : Columns) (first : ℕ) (items : List AExpr) (tree : Expression) (n asked : ℕ) (type : Ty) → Denotes (HoldsFrom first items) n (settled (spelled tree)) → NamesOperands (settled (spelled tree)) → IsTrue (has_wide_horizontals (settled (spelled tree))) → asked ≡ n → ((t : Expression) → Denotes (HoldsExpression items) asked t → HasType (typing registry schema t) type) → (many : Bool) × IsOutput registry schema first items (record { tree = tree; node = n; typed = record { type = type; many = many } })
 one_output registry schema first items tree n asked type d names wide at typed =
-    let has = typed (settled (core tree)) (subst (λ k. Denotes (HoldsExpression items) k (settled (core tree))) (sym at) (any_node first items n (settled (core tree)) d)) in
-    (has.many, record { denotes = d; typed = has.is; names = names; wide = wide })
+    let has = typed (settled (spelled tree)) (subst (λ k. Denotes (HoldsExpression items) k (settled (spelled tree))) (sym at) (any_node first items n (settled (spelled tree)) d)) in
+    (has.many, record { denotes = d; typed = typed_core registry schema tree _ has.is; names = names; wide = wide })
 
 -- a predicate of the type of truth values that was coerced
 pub has_predicate : (registry : Registry) (schema : Columns) (first : ℕ) (old new : List AExpr) (o : Output) (node : Named ℕ) → IsOutput registry schema first old o → o.typed.type ≡ Truth → node.label ≡ label_of o.tree → node.expression ≡ o.node → AreWrittenOut registry schema first old new (o.node ∷ []) → HasPredicate registry schema new o.tree node
@@ -218,7 +222,8 @@ has_predicate registry schema first old new o node is truth name at coerced =
 -- the root is a typed output
 pub root_typed : (registry : Registry) (schema : Columns) (first : ℕ) (items : List AExpr) (o : Output) (roots : List ℕ) → IsOutput registry schema first items o → roots ≡ o.node ∷ [] → AllByRecursion (DenotesKnown registry schema first items) roots
 root_typed registry schema first items o roots is at =
-    subst (AllByRecursion (DenotesKnown registry schema first items)) (sym at) (record { tree = settled (core o.tree); denotes = is.denotes; has = record { typed = o.typed; is = is.typed; known = settled_known registry schema (core o.tree) o.typed is.typed } }, tt)
+    let typed = typed_spelled registry schema o.tree o.typed is.typed in
+    subst (AllByRecursion (DenotesKnown registry schema first items)) (sym at) (record { tree = settled (spelled o.tree); denotes = is.denotes; has = record { typed = o.typed; is = typed; known = settled_known registry schema (spelled o.tree) o.typed typed } }, tt)
 
 -- a refusal for one reason is one for another
 pub refused_as : {T E : Type 0} (r : Result T E) (P Q : E → Type 0) → ((error : E) → P error → Q error) → IfErr r P → IfErr r Q

@@ -17,12 +17,12 @@ labels_of_each [] = refl
 labels_of_each (tree ∷ trees) = ap (λ labels. label_of tree ∷ labels) (labels_of_each trees)
 
 -- one that stays keeps the names of its operands
-pub function_over : (keep : Bool) (function : FunctionExpr) (input : Exprs) (exprs : List ExprIR) → is_written_out (FunctionOp function []) (length input.items.items) ≡ false → recorded exprs ≡ map label_of (plain_trees input)
-    → pruned keep (node (FunctionOp function []) (children_from (plain_trees input))) ≡ node (FunctionOp function (recorded exprs)) (all_pruned false (children_from (plain_trees input)))
-function_over keep function input exprs stays names =
+pub function_over : (keep write : Bool) (function : FunctionExpr) (input : Exprs) (exprs : List ExprIR) → is_written_out write (FunctionOp function []) (length input.items.items) ≡ false → recorded exprs ≡ map label_of (plain_trees input)
+    → pruned keep write (node (FunctionOp function []) (children_from (plain_trees input))) ≡ node (FunctionOp function (recorded exprs)) (all_pruned false write (children_from (plain_trees input)))
+function_over keep write function input exprs stays names =
     let trees = plain_trees input in
-    function_stays keep function (children_from trees) (length input.items.items) stays (operands_counted input)
-    ∙ ap (λ labels. node (FunctionOp function labels) (all_pruned false (children_from trees))) (labels_of_each trees ∙ sym names)
+    function_stays keep write function (children_from trees) (length input.items.items) stays (operands_counted input)
+    ∙ ap (λ labels. node (FunctionOp function labels) (all_pruned false write (children_from trees))) (labels_of_each trees ∙ sym names)
 
 -- the name of one more operand is kept
 pub name_recorded : (exprs longer : List ExprIR) (expr : ExprIR) (tree : Expression) (left rest : List Expression) (all : List Label) → longer ≡ exprs ++ expr ∷ [] → (named_node expr).label ≡ label_of tree → left ≡ tree ∷ rest → recorded exprs ++ map label_of left ≡ all → recorded longer ++ map label_of rest ≡ all

@@ -1,6 +1,6 @@
 -- A number at the top of an expression.
 use Rattle.std.proofs.Common.{◌≡◌, ◌≢◌, refl}
-use Rattle.plan_dsl.specs.Aliases.{core}
+use Rattle.plan_dsl.specs.Aliases.{spelled}
 use Rattle.plan_dsl.specs.Expressions.{function_source, plain_tree, row_trees}
 use Rattle.plan_dsl.specs.Literals.{settled}
 use Rattle.plan_dsl.specs.Names.{label_of}
@@ -19,15 +19,15 @@ settled_at_top_label (node (AliasOp name) (more tree no_more)) = refl
 settled_at_top_label (node (LiteralOp type value) children) = refl
 settled_at_top_label (node _ children) = refl
 
--- and the one that it has without aliases
-core_label_own : (tree : Expression) → label_of (core (settled_own tree)) ≡ label_of (core tree)
-core_label_own (node (LiteralOp type value) children) = refl
-core_label_own (node _ children) = refl
+-- and the one that it has without aliases, with its horizontals written out
+spelled_label_own : (tree : Expression) → label_of (spelled (settled_own tree)) ≡ label_of (spelled tree)
+spelled_label_own (node (LiteralOp type value) children) = refl
+spelled_label_own (node _ children) = refl
 
-pub core_label_at_top : (tree : Expression) → label_of (core (settled_at_top tree)) ≡ label_of (core tree)
-core_label_at_top (node (AliasOp name) (more tree no_more)) = core_label_own tree
-core_label_at_top (node (LiteralOp type value) children) = refl
-core_label_at_top (node _ children) = refl
+pub spelled_label_at_top : (tree : Expression) → label_of (spelled (settled_at_top tree)) ≡ label_of (spelled tree)
+spelled_label_at_top (node (AliasOp name) (more tree no_more)) = spelled_label_own tree
+spelled_label_at_top (node (LiteralOp type value) children) = refl
+spelled_label_at_top (node _ children) = refl
 
 function_own : (function : FunctionExpr) (sources : Trees SourceOp) → unwritten (node (function_source function) sources) ≡ settled_own (unwritten (node (function_source function) sources))
 function_own (FieldByIndex place) sources = refl

@@ -15,11 +15,11 @@ use Rattle.plan_arena.specs.Items.{HoldsExpression, HoldsFrom, expression_layer}
 abbrev pub KeepsExpressions : List AExpr → List AExpr → Type 0
 KeepsExpressions old new = (n : ℕ) (op : Op) (inputs : List ℕ) → HoldsExpression old n op inputs → HoldsExpression new n op inputs
 
--- an expression over its operands as nodes have them, with their aliases or without: a function has their names, and none
--- of their aliases
-abbrev pub over_inputs : Bool → Expression → Expression
-over_inputs keep (node (FunctionOp function []) children) = node (FunctionOp function (fold_all op_label children)) (all_pruned false children)
-over_inputs keep (node op children) = node op (all_pruned keep children)
+-- an expression over its operands as nodes have them, with their aliases or without, and with horizontals written out or
+-- not: a function has their names, and none of their aliases
+abbrev pub over_inputs : Bool → Bool → Expression → Expression
+over_inputs keep write (node (FunctionOp function []) children) = node (FunctionOp function (fold_all op_label children)) (all_pruned false write children)
+over_inputs keep write (node op children) = node op (all_pruned keep write children)
 
 -- an expression that is no column and no operator
 abbrev pub IsRarer : Expr → Type 0

@@ -11,7 +11,7 @@ use Rattle.plan_dsl.specs.Expansion.{expansions}
 use Rattle.plan_dsl.specs.Names.{label_of, name_of}
 use Rattle.plan_dsl.specs.Plans.{Named, Plan, select_op, hstack_op, empty_table}
 use Rattle.plan_dsl.specs.PlanRules.{with_columns}
-use Rattle.plan_dsl.specs.Aliases.{core}
+use Rattle.plan_dsl.specs.Aliases.{core, spelled}
 use Rattle.plan_dsl.specs.Literals.{settled}
 use Rattle.plan_dsl.specs.Typing.{Typed, typing}
 use Rattle.plan_dsl.specs.Strictness.{IsSame, IsStrict}
@@ -33,14 +33,14 @@ lowered_named output = record { label = label_of output.tree; expression = outpu
 abbrev pub lowered_column : Lowered → Name × Ty
 lowered_column output = (name_of output.tree, output.typed.type)
 
--- the expression, as a plan takes it, is typed, and what stands for it says the same, is strict and has names for the
--- operands of its functions, and each horizontal in it is wide: it is that expression with every implicit cast written out, without the casts that can be told
--- beforehand
+-- The expression, as a plan takes it, is typed. What stands for it says the same as that with its horizontals written out,
+-- is strict and has names for the operands of its functions, and each horizontal in it is wide: it is that expression with
+-- every implicit cast written out, without the casts that can be told beforehand.
 pub record IsLowered (registry : Registry) (schema : Columns) (output : Lowered) : Type 0 where
   pub typed : typing registry schema (settled (core output.tree)) ≡ Ok output.typed
-  pub same : IsSame registry schema (settled (core output.tree)) output.after
+  pub same : IsSame registry schema (settled (spelled output.tree)) output.after
   pub strict : IsStrict registry schema output.after
-  pub casts : output.after ≡ written_out registry schema (settled (core output.tree))
+  pub casts : output.after ≡ written_out registry schema (settled (spelled output.tree))
   pub names : NamesOperands output.after
   pub wide : IsTrue (has_wide_horizontals output.after)
 

@@ -12,7 +12,7 @@ use Rattle.plan_dsl.specs.Sources.{Source}
 use Rattle.plan_dsl.specs.Expansion.{expansions}
 use Rattle.plan_dsl.specs.Names.{label_of, name_of}
 use Rattle.plan_dsl.specs.Plans.{Named}
-use Rattle.plan_dsl.specs.Aliases.{core}
+use Rattle.plan_dsl.specs.Aliases.{core, spelled}
 use Rattle.plan_dsl.specs.Literals.{settled}
 use Rattle.plan_dsl.specs.Typing.{Typed, typing}
 use Rattle.plan_arena.specs.declared.aexpr.AExpr.{AExpr}
@@ -34,13 +34,13 @@ output_node output = record { label = label_of output.tree; expression = output.
 abbrev pub output_column : Output → Name × Ty
 output_column output = (name_of output.tree, output.typed.type)
 
--- the node denotes the expression as a plan takes it, which has the type, and names for the operands of its functions, and
--- in which each horizontal is wide
+-- The expression as a plan takes it has the type. The node denotes it with its horizontals written out, in which the
+-- operands of functions have names, and each horizontal is wide.
 pub record IsOutput (registry : Registry) (schema : Columns) (first : ℕ) (items : List AExpr) (output : Output) : Type 0 where
-  pub denotes : Denotes (HoldsFrom first items) output.node (settled (core output.tree))
+  pub denotes : Denotes (HoldsFrom first items) output.node (settled (spelled output.tree))
   pub typed : typing registry schema (settled (core output.tree)) ≡ Ok output.typed
-  pub names : NamesOperands (settled (core output.tree))
-  pub wide : IsTrue (has_wide_horizontals (settled (core output.tree)))
+  pub names : NamesOperands (settled (spelled output.tree))
+  pub wide : IsTrue (has_wide_horizontals (settled (spelled output.tree)))
 
 -- the nodes are those of the expressions, and the columns their names and types
 pub record Projects (registry : Registry) (schema : Columns) (first : ℕ) (items : List AExpr) (trees : List Expression) (nodes : List (Named ℕ)) (columns : Columns) : Type 0 where

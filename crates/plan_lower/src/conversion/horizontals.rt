@@ -1,14 +1,15 @@
 //! Horizontals over few operands, which are written out.
-ghost use Rattle.std.specs.Prelude.{◌≡◌, ◌≤◌, ℕ, [], length, false, IfOk, IfErr, MatchOption, Some, slice_get};
+ghost use Rattle.std.specs.Prelude.{◌≡◌, ◌≤◌, ℕ, [], length, map, false, true, IfOk, IfErr, MatchOption, Some, slice_get};
+ghost use Rattle.std.specs.List.{list_all};
 ghost use Rattle.plan_types.specs.Errors.{no_memory};
-ghost use Rattle.plan_dsl.specs.Aliases.{chained, core, is_written_out};
-ghost use Rattle.plan_dsl.specs.Expressions.{plain_tree};
-ghost use Rattle.plan_dsl.specs.Names.{label_of};
+ghost use Rattle.plan_dsl.specs.Aliases.{chained, is_written_out};
+ghost use Rattle.plan_dsl.specs.Expressions.{order_trees, plain_tree, plain_trees};
 ghost use Rattle.plan_dsl.specs.Ops.{Op, Expression, FunctionOp};
+ghost use Rattle.plan_dsl.specs.Sources.{unwritten};
 ghost use Rattle.plan_dsl.specs.Trees.{Trees, no_more, more, tree_count};
 ghost use Rattle.plan_arena.specs.Denotation.{Denotes};
 ghost use Rattle.plan_arena.specs.Items.{Grows, HoldsFrom};
-ghost use Rattle.plan_lower.specs.Horizontals.{InChain, IsNamedAs, IsWrittenBy, called};
+ghost use Rattle.plan_lower.specs.Horizontals.{InChain, IsNamedAlone, IsNamedAs, IsWrittenBy, called, writes_none};
 
 use plan_arena::aexpr::AExpr;
 use plan_arena::arena::{Arena, Node};
@@ -16,6 +17,7 @@ use plan_dsl::expr::{Expr, Exprs};
 use plan_dsl::function_expr::FunctionExpr;
 use plan_dsl::literal::LiteralValue;
 use plan_dsl::operator::Operator;
+use plan_dsl::sort_options::SortOptions;
 use plan_types::dtype::{CastOptions, DataType};
 use plan_types::error::PlanError;
 
@@ -27,11 +29,12 @@ pub(crate) struct Chaining {
 }
 
 impl Chaining {
-    /// What a function over so many operands is written out by, if it is.
-    pub(crate) fn of(function: &FunctionExpr, count: usize) -> Option<Chaining>
-        ensures { MatchOption result (is_written_out (FunctionOp function.now []) count ≡ false) (λ by. IsWrittenBy function.now count by.operator by.nothing) }
+    /// What a function over so many operands is written out by, if it is, where horizontals are.
+    pub(crate) fn of(function: &FunctionExpr, count: usize, write: bool) -> Option<Chaining>
+        ensures { MatchOption result (is_written_out write (FunctionOp function.now []) count ≡ false)
+            (λ by. (write ≡ true) × IsWrittenBy function.now count by.operator by.nothing) }
     {
-        if count >= 128 {
+        if !write || count >= 128 {
             return None;
         }
         match function {
@@ -106,15 +109,99 @@ impl Chaining {
 
 /// The first operand of a function that is written out, where it has one: its name is the whole's.
 pub(crate) fn first_written<'a>(function: &FunctionExpr, input: &'a Exprs) -> Option<&'a Expr>
-    ensures { MatchOption result (label_of (called function.now input.now) ≡ label_of (core (called function.now input.now)))
+    ensures { MatchOption result (IsNamedAlone (called function.now input.now))
         (λ first. (slice_get input.now.items.items 0 ≡ Some first.now) × IsNamedAs (called function.now input.now) (plain_tree first.now)) }
 {
     let exprs = input.items.as_slice();
-    match Chaining::of(function, exprs.len()) {
+    match Chaining::of(function, exprs.len(), true) {
         Some(_) => match exprs.first() {
             Some(first) => Some(first),
             None => None,
         },
         None => None,
+    }
+}
+
+/// Whether no horizontal in an expression is written out.
+#[cycle(writes_none)]
+pub(crate) fn writes_none(expr: &Expr) -> bool
+    ensures { result ≡ writes_none (plain_tree expr.now) }
+{
+    match expr {
+        Expr::BinaryExpr { left, right, .. } => writes_none(left) && writes_none(right),
+        Expr::Cast { expr, .. } | Expr::Sort { expr, .. } => writes_none(expr),
+        Expr::Slice {
+            input,
+            offset,
+            length,
+        } => writes_none(input) && writes_none(offset) && writes_none(length),
+        Expr::Explode(input) => writes_none(input),
+        Expr::Gather { expr, idx, .. } => writes_none(expr) && writes_none(idx),
+        Expr::Filter { input, by } => writes_none(input) && writes_none(by),
+        Expr::SortBy { expr, by, .. } => writes_none(expr) && all_write_none(by),
+        Expr::Alias(expr, _) => writes_none(expr),
+        Expr::Agg(aggregate) => writes_none(aggregate.as_ref()),
+        Expr::Window {
+            function,
+            partition_by,
+            order_by,
+            ..
+        } => writes_none(function) && order_writes_none(order_by) && all_write_none(partition_by),
+        Expr::Ternary {
+            predicate,
+            truthy,
+            falsy,
+        } => writes_none(truthy) && writes_none(predicate) && writes_none(falsy),
+        Expr::Function { input, function } => call_writes_none(function, input),
+        Expr::Column(_)
+        | Expr::Literal(_)
+        | Expr::Len
+        | Expr::Columns(_)
+        | Expr::DtypeColumn(_)
+        | Expr::IndexColumn(_)
+        | Expr::Nth(_)
+        | Expr::Wildcard
+        | Expr::Exclude(_, _)
+        | Expr::Selector(_)
+        | Expr::KeepName(_)
+        | Expr::RenameAlias { .. } => true,
+    }
+}
+
+// Whether neither a function over its inputs nor a horizontal in these is written out.
+#[cycle(writes_none)]
+fn call_writes_none(function: &FunctionExpr, input: &Exprs) -> bool
+    ensures { result ≡ writes_none (called function.now input.now) }
+{
+    if !function.is_expanded() {
+        return true;
+    }
+    match Chaining::of(function, input.items.as_slice().len(), true) {
+        Some(_) => false,
+        None => all_write_none(input),
+    }
+}
+
+// Whether no horizontal in the expressions is written out.
+#[cycle(writes_none)]
+fn all_write_none(exprs: &Exprs) -> bool
+    ensures { result ≡ list_all writes_none (plain_trees exprs.now) }
+{
+    for expr in exprs.items.as_slice() {
+        if !writes_none(expr) {
+            return false;
+        }
+    }
+    true
+}
+
+// Whether no horizontal is written out in what orders the groups of a window, if anything does.
+#[cycle(writes_none)]
+fn order_writes_none(order: &Option<(Box<Expr>, SortOptions)>) -> bool
+    ensures { result ≡ list_all writes_none (map unwritten (order_trees order.now)) }
+{
+    match order {
+        None => true,
+        Some((expr, _)) => writes_none(expr),
     }
 }

@@ -1,10 +1,10 @@
 //! The expressions of one node, lowered together.
-ghost use Rattle.std.specs.Prelude.{◌≡◌, ◌≢◌, ℕ, [], true, Ok, OnOk, IfOk, IfErr, IfSome, length, map};
+ghost use Rattle.std.specs.Prelude.{◌≡◌, ◌≢◌, ℕ, [], false, true, Ok, OnOk, IfOk, IfErr, IfSome, length, map};
 ghost use Rattle.std.specs.List.{AllByRecursion, list_all};
 ghost use Rattle.std.specs.Option.{option_map_or};
 ghost use Rattle.plan_types.specs.Errors.{no_memory, IsRefusal};
 ghost use Rattle.plan_types.specs.Schemas.{columns};
-ghost use Rattle.plan_dsl.specs.Aliases.{core};
+ghost use Rattle.plan_dsl.specs.Aliases.{core, pruned, spelled};
 ghost use Rattle.plan_dsl.specs.Expansion.{expansions};
 ghost use Rattle.plan_dsl.specs.Expressions.{plain_tree, plain_trees, tree_of, trees_of};
 ghost use Rattle.plan_dsl.specs.Literals.{settled};
@@ -12,7 +12,7 @@ ghost use Rattle.plan_dsl.specs.Names.{label_of};
 ghost use Rattle.plan_dsl.specs.Ops.{Expression};
 ghost use Rattle.plan_dsl.specs.Registry.{registry};
 ghost use Rattle.plan_dsl.specs.Sources.{is_plain};
-ghost use Rattle.plan_dsl.specs.Typing.{typing};
+ghost use Rattle.plan_dsl.specs.Typing.{Typed, typing};
 ghost use Rattle.plan_arena.specs.Denotation.{Denotes};
 ghost use Rattle.plan_arena.specs.Items.{named_node, output_label, Grows, HoldsExpression, HoldsFrom};
 ghost use Rattle.plan_infer.specs.KeptTypes.{Extends, HasRightTypes, IsKept, IsRight};
@@ -22,7 +22,8 @@ ghost use Rattle.plan_lower.specs.Outputs.{HasExpandedOutputs, HasOutputs};
 ghost use Rattle.plan_lower.specs.Projection.{Projects, AddsOutput, IsOutputRefusal, IsProjectionRefusal, IsUnprojected};
 
 use crate::conversion::coercion::coerce_all;
-use crate::conversion::expr_to_ir::{add_nodes, alias_name, settle};
+use crate::conversion::expr_to_ir::{Pruning, add_nodes, alias_name, settle};
+use crate::conversion::horizontals::writes_none;
 use plan_arena::aexpr::AExpr;
 use plan_arena::arena::{Arena, Node};
 use plan_arena::expr_ir::{ExprIR, ExprIRs, OutputName};
@@ -202,8 +203,9 @@ fn project_one(
     Ok(expr_ir)
 }
 
-/// Adds an expression's nodes without its aliases, and types them over a frame of the schema. A number without a type
-/// at its top gets the one that it has alone.
+/// Adds an expression's nodes without its aliases and with its horizontals written out, and types them over a frame of the
+/// schema. The rule of a horizontal is asked of the horizontal itself. A number without a type at the top gets the one
+/// that it has alone.
 pub(crate) fn add_typed(
     expr: Expr,
     schema: &Schema,
@@ -214,7 +216,7 @@ pub(crate) fn add_typed(
     requires plain { is_plain (tree_of expr) ≡ true }
     requires right { IsRight (registry udfs.now) (columns schema.now) arena.old types.old }
     ensures name { IfOk result (λ expr_ir. (named_node expr_ir).label ≡ label_of (plain_tree expr)) }
-    ensures denotes { IfOk result (λ expr_ir. Denotes (HoldsFrom (length arena.old) arena.new) (named_node expr_ir).expression (settled (core (plain_tree expr)))) }
+    ensures denotes { IfOk result (λ expr_ir. Denotes (HoldsFrom (length arena.old) arena.new) (named_node expr_ir).expression (settled (spelled (plain_tree expr)))) }
     ensures grows { Grows arena.old arena.new }
     ensures kept { IfOk result (λ expr_ir. IsKept types.new (named_node expr_ir).expression) }
     ensures right { OnOk result (IsRight (registry udfs.now) (columns schema.now) arena.new types.new) }
@@ -245,8 +247,8 @@ fn add_named(
     requires plain { is_plain (tree_of expr) ≡ true }
     requires set { IfSome alias (λ name. name ≢ OutputName.None) }
     requires right { IsRight (registry udfs.now) (columns schema.now) arena.old types.old }
-    ensures name { IfOk result (λ expr_ir. (named_node expr_ir).label ≡ option_map_or output_label alias (label_of (core (plain_tree expr)))) }
-    ensures denotes { IfOk result (λ expr_ir. Denotes (HoldsFrom (length arena.old) arena.new) (named_node expr_ir).expression (settled (core (plain_tree expr)))) }
+    ensures name { IfOk result (λ expr_ir. (named_node expr_ir).label ≡ option_map_or output_label alias (label_of (spelled (plain_tree expr)))) }
+    ensures denotes { IfOk result (λ expr_ir. Denotes (HoldsFrom (length arena.old) arena.new) (named_node expr_ir).expression (settled (spelled (plain_tree expr)))) }
     ensures grows { Grows arena.old arena.new }
     ensures kept { IfOk result (λ expr_ir. IsKept types.new (named_node expr_ir).expression) }
     ensures right { OnOk result (IsRight (registry udfs.now) (columns schema.now) arena.new types.new) }
@@ -267,7 +269,8 @@ fn add_named(
     }
 }
 
-// Adds an expression's nodes without its aliases, and types them over a frame of the schema.
+// Adds an expression's nodes without its aliases and with its horizontals written out, and types them over a frame of the
+// schema. What breaks a rule is told of horizontals as nodes of their own.
 fn add_inferred(
     expr: Expr,
     schema: &Schema,
@@ -277,14 +280,103 @@ fn add_inferred(
 ) -> Result<Node, PlanError>
     requires plain { is_plain (tree_of expr) ≡ true }
     requires right { IsRight (registry udfs.now) (columns schema.now) arena.old types.old }
-    ensures denotes { IfOk result (λ node. Denotes (HoldsFrom (length arena.old) arena.new) node.0 (core (plain_tree expr))) }
+    ensures denotes { IfOk result (λ node. Denotes (HoldsFrom (length arena.old) arena.new) node.0 (spelled (plain_tree expr))) }
     ensures grows { Grows arena.old arena.new }
     ensures kept { IfOk result (λ node. IsKept types.new node.0) }
     ensures right { OnOk result (IsRight (registry udfs.now) (columns schema.now) arena.new types.new) }
     ensures extends { OnOk result (Extends types.old types.new) }
     ensures err { IfErr result (IsRefusal (typing (registry udfs.now) (columns schema.now) (core (plain_tree expr)))) }
 {
-    let node = add_nodes(expr, false, arena)?;
+    if writes_none(&expr) {
+        return add_pruned(expr, true, schema, arena, udfs, types);
+    }
+    match expr.try_clone(arena.allocator()) {
+        Ok(copy) => add_spelled(expr, copy, schema, arena, udfs, types),
+        Err(error) => {
+            drop(expr);
+            Err(error)
+        }
+    }
+}
+
+// Adds an expression's nodes with its horizontals written out, and types them over a frame of the schema. Where a rule is
+// broken, the copy tells it.
+fn add_spelled(
+    expr: Expr,
+    copy: Expr,
+    schema: &Schema,
+    arena: &mut Arena<AExpr>,
+    udfs: &Udfs,
+    types: &mut TypeTable,
+) -> Result<Node, PlanError>
+    requires plain { is_plain (tree_of expr) ≡ true }
+    requires same { tree_of copy ≡ tree_of expr }
+    requires right { IsRight (registry udfs.now) (columns schema.now) arena.old types.old }
+    ensures denotes { IfOk result (λ node. Denotes (HoldsFrom (length arena.old) arena.new) node.0 (spelled (plain_tree expr))) }
+    ensures grows { Grows arena.old arena.new }
+    ensures kept { IfOk result (λ node. IsKept types.new node.0) }
+    ensures right { OnOk result (IsRight (registry udfs.now) (columns schema.now) arena.new types.new) }
+    ensures extends { OnOk result (Extends types.old types.new) }
+    ensures err { IfErr result (IsRefusal (typing (registry udfs.now) (columns schema.now) (core (plain_tree expr)))) }
+{
+    match add_pruned(expr, true, schema, arena, udfs, types) {
+        Ok(node) => {
+            drop(copy);
+            Ok(node)
+        }
+        Err(error) => {
+            let kind = error.kind;
+            if kind == ErrorKind::NoMemory {
+                drop(copy);
+                return Err(error);
+            }
+            drop(error);
+            Err(refusal_of(copy, schema, arena, udfs, types))
+        }
+    }
+}
+
+// Why an expression has no type over a frame of the schema, with its horizontals as nodes of their own.
+fn refusal_of(
+    expr: Expr,
+    schema: &Schema,
+    arena: &mut Arena<AExpr>,
+    udfs: &Udfs,
+    types: &mut TypeTable,
+) -> PlanError
+    requires plain { is_plain (tree_of expr) ≡ true }
+    requires right { IsRight (registry udfs.now) (columns schema.now) arena.old types.old }
+    requires untyped { (typed : Typed) → ¬ (typing (registry udfs.now) (columns schema.now) (core (plain_tree expr)) ≡ Ok typed) }
+    ensures grows { Grows arena.old arena.new }
+    ensures told { IsRefusal (typing (registry udfs.now) (columns schema.now) (core (plain_tree expr))) result }
+{
+    match add_pruned(expr, false, schema, arena, udfs, types) {
+        Ok(_) => unreachable!(),
+        Err(error) => error,
+    }
+}
+
+// Adds an expression's nodes without its aliases, and with its horizontals written out or not, and types them over a frame
+// of the schema.
+fn add_pruned(
+    expr: Expr,
+    write: bool,
+    schema: &Schema,
+    arena: &mut Arena<AExpr>,
+    udfs: &Udfs,
+    types: &mut TypeTable,
+) -> Result<Node, PlanError>
+    requires plain { is_plain (tree_of expr) ≡ true }
+    requires right { IsRight (registry udfs.now) (columns schema.now) arena.old types.old }
+    ensures denotes { IfOk result (λ node. Denotes (HoldsFrom (length arena.old) arena.new) node.0 (pruned false write (plain_tree expr))) }
+    ensures grows { Grows arena.old arena.new }
+    ensures kept { IfOk result (λ node. IsKept types.new node.0) }
+    ensures right { IsRight (registry udfs.now) (columns schema.now) arena.new types.new }
+    ensures extends { OnOk result (Extends types.old types.new) }
+    ensures err { IfErr result (IsRefusal (typing (registry udfs.now) (columns schema.now) (pruned false write (plain_tree expr)))) }
+{
+    let pruning = Pruning { keep: false, write };
+    let node = add_nodes(expr, pruning, arena)?;
     types.infer(node, schema, arena, udfs)?;
     Ok(node)
 }

@@ -1,16 +1,16 @@
-//! Horizontals as they are lowered: written out over few operands, and else functions' nodes.
+//! Horizontals as they are lowered: written out over few operands, and else functions' nodes. Their rule is asked of nodes.
 
-ghost use Rattle.std.specs.Prelude.{◌≡◌, ◌≢◌, [], ◌∷◌, List, None, Some, codes, replicate, true, false};
+ghost use Rattle.std.specs.Prelude.{◌≡◌, ◌≢◌, [], ◌∷◌, ◌++◌, List, None, Some, codes, replicate, true, false};
 ghost use Rattle.plan_types.specs.Types.{Truth};
 ghost use Rattle.plan_types.specs.Errors.{at_top};
 ghost use Rattle.plan_types.specs.declared.dtype.CastOptions.TheVariants.{NonStrict};
 ghost use Rattle.plan_types.specs.declared.dtype.DataType.TheVariants.{Boolean};
-ghost use Rattle.plan_types.specs.declared.error.ErrorKind.TheVariants.{ComputeError, InvalidOperation};
+ghost use Rattle.plan_types.specs.declared.error.ErrorKind.TheVariants.{ColumnNotFound, ComputeError, Duplicate, InvalidOperation};
 ghost use Rattle.plan_dsl.specs.declared.function_expr.FunctionExpr.TheVariants.{AllHorizontal, AnyHorizontal, IsNull};
 ghost use Rattle.plan_dsl.specs.declared.literal.LiteralValue.TheVariants.{Boolean as TruthLiteral};
 ghost use Rattle.plan_dsl.specs.declared.operator.Operator.TheVariants.{LogicalAnd, LogicalOr};
-ghost use Rattle.plan_dsl.specs.Aliases.{core, pruned};
-ghost use Rattle.plan_dsl.specs.Samples.{alias, binary, call};
+ghost use Rattle.plan_dsl.specs.Aliases.{pruned, spelled};
+ghost use Rattle.plan_dsl.specs.Samples.{Gives, alias, binary, call};
 ghost use Rattle.plan_dsl.specs.Sources.{written};
 ghost use Rattle.plan_dsl.specs.Trees.{no_more, more};
 ghost use Rattle.plan_arena.specs.Denotation.{Denotes};
@@ -20,7 +20,10 @@ ghost use Rattle.plan_arena.specs.declared.aexpr.AExpr.TheVariants.{Alias, Binar
 ghost use Rattle.plan_arena.specs.Samples.{node_at};
 ghost use Rattle.plan_infer.specs.Samples.{int8, one_column, a, b, c, a_items};
 ghost use Rattle.plan_lower.specs.ExpressionFields.{IsFieldRefusal};
-ghost use Rattle.plan_lower.specs.Horizontals.{InChain, IsWrittenBy};
+ghost use Rattle.plan_lower.specs.Horizontals.{InChain, IsWrittenBy, writes_none};
+ghost use Rattle.plan_lower.specs.Predicates.{IsPredicateRefusal};
+ghost use Rattle.plan_lower.specs.Projection.{IsOutputRefusal};
+ghost use Rattle.plan_lower.specs.Samples.{keep, truths};
 
 /// What horizontals are written out by, where they are.
 pub fn horizontals_written_by()
@@ -32,19 +35,19 @@ pub fn horizontals_written_by()
 
 /// Nodes of horizontals: a literal, a cast, and operators, each right behind its second operand.
 pub fn nodes_of_horizontals()
-    ensures none { Denotes (HoldsFrom 0 (Literal (TruthLiteral true) ∷ [])) 0 (pruned true (call AllHorizontal [])) }
-    ensures one { Denotes (HoldsFrom 0 (Column (codes "a") ∷ Cast (node_at 0) Boolean NonStrict ∷ [])) 1 (pruned true (call AnyHorizontal (a ∷ []))) }
-    ensures two { Denotes (HoldsFrom 0 (Column (codes "a") ∷ Column (codes "b") ∷ BinaryExpr (node_at 0) LogicalAnd (node_at 1) ∷ [])) 2 (core (call AllHorizontal (a ∷ b ∷ []))) }
+    ensures none { Denotes (HoldsFrom 0 (Literal (TruthLiteral true) ∷ [])) 0 (pruned true true (call AllHorizontal [])) }
+    ensures one { Denotes (HoldsFrom 0 (Column (codes "a") ∷ Cast (node_at 0) Boolean NonStrict ∷ [])) 1 (pruned true true (call AnyHorizontal (a ∷ []))) }
+    ensures two { Denotes (HoldsFrom 0 (Column (codes "a") ∷ Column (codes "b") ∷ BinaryExpr (node_at 0) LogicalAnd (node_at 1) ∷ [])) 2 (spelled (call AllHorizontal (a ∷ b ∷ []))) }
     ensures three { let items = Column (codes "a") ∷ Column (codes "b") ∷ BinaryExpr (node_at 0) LogicalOr (node_at 1) ∷ Column (codes "c") ∷ BinaryExpr (node_at 2) LogicalOr (node_at 3) ∷ [] in
-        Denotes (HoldsFrom 0 items) 4 (core (call AnyHorizontal (a ∷ b ∷ c ∷ []))) }
+        Denotes (HoldsFrom 0 items) 4 (spelled (call AnyHorizontal (a ∷ b ∷ c ∷ []))) }
     ensures aliases { let items = Column (codes "a") ∷ Alias (node_at 0) (codes "x") ∷ Column (codes "b") ∷ BinaryExpr (node_at 1) LogicalAnd (node_at 2) ∷ Alias (node_at 3) (codes "z") ∷ [] in
-        Denotes (HoldsFrom 0 items) 4 (pruned true (alias "z" (call AllHorizontal (alias "x" a ∷ b ∷ [])))) }
+        Denotes (HoldsFrom 0 items) 4 (pruned true true (alias "z" (call AllHorizontal (alias "x" a ∷ b ∷ [])))) }
     ensures no_aliases { let items = Column (codes "a") ∷ Column (codes "b") ∷ BinaryExpr (node_at 0) LogicalAnd (node_at 1) ∷ [] in
-        Denotes (HoldsFrom 0 items) 2 (core (alias "z" (call AllHorizontal (alias "x" a ∷ b ∷ [])))) }
+        Denotes (HoldsFrom 0 items) 2 (spelled (alias "z" (call AllHorizontal (alias "x" a ∷ b ∷ [])))) }
     ensures inside { let items = Column (codes "a") ∷ Column (codes "b") ∷ Column (codes "c") ∷ BinaryExpr (node_at 1) LogicalOr (node_at 2) ∷ BinaryExpr (node_at 0) LogicalAnd (node_at 3) ∷ [] in
-        Denotes (HoldsFrom 0 items) 4 (core (call AllHorizontal (a ∷ call AnyHorizontal (b ∷ c ∷ []) ∷ []))) }
+        Denotes (HoldsFrom 0 items) 4 (spelled (call AllHorizontal (a ∷ call AnyHorizontal (b ∷ c ∷ []) ∷ []))) }
     ensures other_operator { let items = Column (codes "a") ∷ Column (codes "b") ∷ BinaryExpr (node_at 0) LogicalOr (node_at 1) ∷ [] in
-        ¬ (Denotes (HoldsFrom 0 items) 2 (core (call AllHorizontal (a ∷ b ∷ [])))) }
+        ¬ (Denotes (HoldsFrom 0 items) 2 (spelled (call AllHorizontal (a ∷ b ∷ [])))) }
 {}
 
 /// A node stands for the front of a chain, or none does in front of the first operand.
@@ -56,9 +59,33 @@ pub fn chains_so_far()
     ensures none_behind_the_first { ¬ (InChain LogicalAnd 0 a_items (more a (more b no_more)) (more b no_more) None) }
 {}
 
-/// A horizontal has a field as it is written out.
+/// Whether no horizontal in an expression is written out.
+pub fn expressions_that_write_none()
+    ensures { Gives writes_none (
+        (a, true) ∷ (call IsNull (a ∷ []), true) ∷ (call AllHorizontal [], false) ∷ (call AnyHorizontal (a ∷ []), false) ∷ (binary LogicalAnd a (call AllHorizontal (a ∷ b ∷ [])), false) ∷
+        (call AllHorizontal (replicate 128 a), true) ∷ (call AllHorizontal (call AnyHorizontal (b ∷ c ∷ []) ∷ replicate 127 a), false) ∷ []) }
+{}
+
+/// A horizontal is refused as its operands are, wherever the one stands that is, and else for one of another type than
+/// that of truth values. An operand alone is cast.
+pub fn refusals_of_horizontals()
+    ensures unknown_first { IsOutputRefusal [] (one_column int8 ++ truths) Duplicate (call AllHorizontal (c ∷ a ∷ keep ∷ [])) [] (at_top ColumnNotFound) }
+    ensures unknown_between { IsOutputRefusal [] (one_column int8 ++ truths) Duplicate (call AnyHorizontal (a ∷ c ∷ keep ∷ [])) [] (at_top ColumnNotFound) }
+    ensures unknown_last { IsOutputRefusal [] (one_column int8 ++ truths) Duplicate (call AllHorizontal (a ∷ keep ∷ c ∷ [])) [] (at_top ColumnNotFound) }
+    ensures not_as_a_chain { ¬ (IsOutputRefusal [] (one_column int8 ++ truths) Duplicate (call AllHorizontal (a ∷ keep ∷ c ∷ [])) [] (at_top InvalidOperation)) }
+    ensures number_first { IsOutputRefusal [] (one_column int8 ++ truths) Duplicate (call AllHorizontal (a ∷ keep ∷ [])) [] (at_top InvalidOperation) }
+    ensures number_between { IsOutputRefusal [] (one_column int8 ++ truths) Duplicate (call AllHorizontal (keep ∷ a ∷ keep ∷ [])) [] (at_top InvalidOperation) }
+    ensures number_last { IsOutputRefusal [] (one_column int8 ++ truths) Duplicate (call AnyHorizontal (keep ∷ a ∷ [])) [] (at_top InvalidOperation) }
+    ensures number_alone { ¬ (IsOutputRefusal [] (one_column int8 ++ truths) Duplicate (call AllHorizontal (a ∷ [])) [] (at_top InvalidOperation)) }
+    ensures predicate { IsPredicateRefusal [] (one_column int8 ++ truths) (call AllHorizontal (a ∷ keep ∷ c ∷ [])) (at_top ColumnNotFound) }
+    ensures no_predicate { ¬ (IsPredicateRefusal [] (one_column int8 ++ truths) (call AllHorizontal (a ∷ keep ∷ c ∷ [])) (at_top InvalidOperation)) }
+{}
+
+/// A horizontal has a field as its node does.
 pub fn fields_of_horizontals()
     ensures no_truth { IsFieldRefusal [] (one_column int8) (written (call AllHorizontal (a ∷ a ∷ []))) (at_top InvalidOperation) }
+    ensures unknown { IsFieldRefusal [] (one_column int8) (written (call AllHorizontal (a ∷ a ∷ c ∷ []))) (at_top ColumnNotFound) }
+    ensures not_as_a_chain { ¬ (IsFieldRefusal [] (one_column int8) (written (call AllHorizontal (a ∷ a ∷ c ∷ []))) (at_top InvalidOperation)) }
     ensures as_it_is { ¬ (IsFieldRefusal [] (one_column int8) (written (call AllHorizontal (a ∷ a ∷ []))) (at_top ComputeError)) }
     ensures cast { ¬ (IsFieldRefusal [] (one_column int8) (written (call AllHorizontal (a ∷ []))) (at_top ComputeError)) }
 {}

@@ -2,7 +2,7 @@ use Rattle.std.proofs.Common.{◌≡◌, List, length, Some, sym, subst}
 use Rattle.plan_types.specs.declared.schema.Schema.{Schema}
 use Rattle.plan_types.specs.Schemas.{columns}
 use Rattle.plan_dsl.specs.Expressions.{plain_tree}
-use Rattle.plan_dsl.specs.Aliases.{core}
+use Rattle.plan_dsl.specs.Aliases.{spelled}
 use Rattle.plan_dsl.specs.Plans.{Plan}
 use Rattle.plan_dsl.specs.PlanRules.{schema_of}
 use Rattle.plan_dsl.specs.Registry.{Registry, registry}
@@ -31,7 +31,7 @@ pub returns-clause-inputs : goal.returns-clause-inputs
 returns-clause-inputs g c =
     let plan = c.args.plan in
     let items = c.to_expr_ir.new.arena in
-    let e = core (plain_tree c.column-expr.result) in
+    let e = spelled (plain_tree c.column-expr.result) in
     let predicate = c.expect-predicate.result in
     let tree = of_ok (λ (p : ExprIR). Denotes (HoldsFrom (length plan.expr_arena) items) (named_node p).expression e) c.to_expr_ir.result predicate c.expect-predicate.ensures c.to_expr_ir.ensures.denotes in
     let longer = on_ok c.add.result c.expect-node.result c.expect-node.ensures c.add.ensures.ok in
@@ -42,7 +42,7 @@ pub returns-clause-over : goal.returns-clause-over
 returns-clause-over g c =
     let plan = c.args.plan in
     let items = c.to_expr_ir.new.arena in
-    let e = core (plain_tree c.column-expr.result) in
+    let e = spelled (plain_tree c.column-expr.result) in
     let predicate = c.expect-predicate.result in
     let tree = of_ok (λ (p : ExprIR). Denotes (HoldsFrom (length plan.expr_arena) items) (named_node p).expression e) c.to_expr_ir.result predicate c.expect-predicate.ensures c.to_expr_ir.ensures.denotes in
     let longer = on_ok c.add.result c.expect-node.result c.expect-node.ensures c.add.ensures.ok in
@@ -56,7 +56,7 @@ pub returns-clause-tree : goal.returns-clause-tree
 returns-clause-tree g c =
     let first = length c.args.plan.expr_arena in
     let items = c.to_expr_ir.new.arena in
-    let e = core (plain_tree c.column-expr.result) in
+    let e = spelled (plain_tree c.column-expr.result) in
     let predicate = c.expect-predicate.result in
     let tree = of_ok (λ (p : ExprIR). Denotes (HoldsFrom first items) (named_node p).expression e) c.to_expr_ir.result predicate c.expect-predicate.ensures c.to_expr_ir.ensures.denotes in
     subst (DenotesTree (HoldsExpression items)) (sym c.node-root.ensures) (tree_added first items (named_node predicate).expression e tree)

@@ -17,7 +17,7 @@ invariant-add_each-loop-expr l = record {
   finite : (goal.iterator-add_each-loop-expr).is_finite l.expr-iterator;
   plain : AllByRecursion (λ e. is_plain (tree_of e) ≡ true) (into_iter_items l.expr-iterator);
   grows : Grows l.initial.arena l.arena;
-  so_far : Adding (length l.initial.arena) l.keep l.arena (plain_trees l.fn.exprs) (map plain_tree (into_iter_items l.expr-iterator)) (numbers l.items.items);
+  so_far : Adding (length l.initial.arena) l.pruning.keep l.pruning.write l.arena (plain_trees l.fn.exprs) (map plain_tree (into_iter_items l.expr-iterator)) (numbers l.items.items);
 }
 
 abbrev pub invariant-add_recorded-loop-expr : goal.invariant-add_recorded-loop-expr
@@ -27,7 +27,7 @@ invariant-add_recorded-loop-expr l = record {
   plain : AllByRecursion (λ e. is_plain (tree_of e) ≡ true) (into_iter_items l.expr-iterator);
   grows : Grows l.initial.arena l.arena;
   names : recorded l.items.items ++ map label_of (map plain_tree (into_iter_items l.expr-iterator)) ≡ map label_of (plain_trees l.fn.exprs);
-  so_far : Adding (length l.initial.arena) false l.arena (plain_trees l.fn.exprs) (map plain_tree (into_iter_items l.expr-iterator)) (numbers_named l.items.items);
+  so_far : Adding (length l.initial.arena) false l.write l.arena (plain_trees l.fn.exprs) (map plain_tree (into_iter_items l.expr-iterator)) (numbers_named l.items.items);
 }
 
 abbrev pub invariant-add_chained-loop-expr : goal.invariant-add_chained-loop-expr
@@ -37,5 +37,5 @@ invariant-add_chained-loop-expr l = record {
   plain : AllByRecursion (λ e. is_plain (tree_of e) ≡ true) (into_iter_items l.expr-iterator);
   grows : Grows l.initial.arena l.arena;
   left : into_iter_len l.expr-iterator ≡ length (into_iter_items l.expr-iterator);
-  so_far : InChain l.chaining.operator (length l.initial.arena) l.arena (all_pruned l.keep (children_from (plain_trees l.fn.exprs))) (all_pruned l.keep (children_from (map plain_tree (into_iter_items l.expr-iterator)))) l.so_far;
+  so_far : InChain l.chaining.operator (length l.initial.arena) l.arena (all_pruned l.pruning.keep l.pruning.write (children_from (plain_trees l.fn.exprs))) (all_pruned l.pruning.keep l.pruning.write (children_from (map plain_tree (into_iter_items l.expr-iterator)))) l.so_far;
 }

@@ -71,5 +71,5 @@ pub returns-clause-of_a_scan : goal.returns-clause-of_a_scan
 returns-clause-of_a_scan c = λ lowering top expressions plans bounded.
     let most = (bounded lowered_query (denotes lowering top expressions plans)).casts in
     let casts : cast_count lowered_query ≡ 1 = refl in
-    let needs : plan_needs [] (scan_of two_columns) ≡ 0 = refl in
+    let needs : plan_needs true [] (scan_of two_columns) ≡ 0 = refl in
     absurd (omega (arith, most, casts, needs))
