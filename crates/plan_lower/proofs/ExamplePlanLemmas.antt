@@ -1,5 +1,5 @@
 -- What the worked examples of plans rest on: one plan a node, scans, and the lowering of a sum.
-use Rattle.std.proofs.Common.{inr, ◌≡◌, ℕ, List, [], ◌∷◌, map, codes, Option, Some, slice_get, refl, sym, ap, ◌∙◌, subst, arith}
+use Rattle.std.proofs.Common.{inr, ◌≡◌, ℕ, true, false, List, [], ◌∷◌, map, codes, Option, Some, slice_get, refl, sym, ap, ◌∙◌, subst, arith}
 use Rattle.plan_types.specs.Schemas.{Columns}
 use Rattle.plan_types.specs.Frames.{Frame}
 use Rattle.plan_dsl.specs.Counts.{cast_count}

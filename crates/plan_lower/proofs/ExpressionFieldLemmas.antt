@@ -1,5 +1,5 @@
 -- The item on top of an expression's nodes, and its field.
-use Rattle.std.proofs.Common.{◌≡◌, ℕ, true, List, Some, slice_get, ap, ◌∙◌}
+use Rattle.std.proofs.Common.{◌≡◌, ℕ, false, true, List, Some, slice_get, ap, ◌∙◌}
 use Rattle.plan_types.specs.Schemas.{Columns}
 use Rattle.plan_types.specs.declared.field.Field.{Field}
 use Rattle.plan_dsl.specs.Aliases.{pruned}

@@ -1,5 +1,5 @@
 -- Expressions with their horizontals written out, beside those that have them as nodes.
-use Rattle.std.proofs.Common.{◌≡◌, ◌≢◌, ℕ, Bool, true, false, not, Ok, Err, refl, sym, ap, ◌∙◌}
+use Rattle.std.proofs.Common.{◌≡◌, ℕ, Bool, true, false, not, [], Ok, Err, refl, sym, ap, ◌∙◌}
 use Rattle.std.proofs.lemmas.Bool.{and_parts}
 use Rattle.plan_types.specs.Errors.{IsRefusal, at_top, no_room, broken}
 use Rattle.plan_types.specs.Frames.{Frame, IsFrame}

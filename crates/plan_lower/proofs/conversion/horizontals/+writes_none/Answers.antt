@@ -40,15 +40,15 @@ writes_none-returns-in-Function t c =
     let kind = c.in-Function in
     c.call_writes_none.ensures ∙ sym (ap (λ s. writes_none (unwritten s)) (function_listed c.args.expr.now kind.input kind.function kind.is).is)
 
-pub call_writes_none-returns-then-not : goal.call_writes_none-returns-then-not
-call_writes_none-returns-then-not t c = sym (field_writes_none c.args.function.now c.args.input.now (sym c.is_expanded.ensures ∙ c.if-is_expanded.false))
+pub call_writes_none-returns-then-not-is_expanded : goal.call_writes_none-returns-then-not-is_expanded
+call_writes_none-returns-then-not-is_expanded t c = sym (field_writes_none c.args.function.now c.args.input.now (sym c.is_expanded.ensures ∙ c.if-not-is_expanded.true))
 
 pub call_writes_none-returns-in-Some : goal.call_writes_none-returns-in-Some
 call_writes_none-returns-in-Some t c =
     let out = subst (λ (exprs : List Expr). is_written_out true (FunctionOp c.args.function.now []) (length exprs) ≡ true) c.as_slice.ensures.value c.in-Some.ensures.1.out in
-    sym (called_writes c.args.function.now c.args.input.now true (sym c.is_expanded.ensures ∙ c.if-is_expanded.true) out)
+    sym (called_writes c.args.function.now c.args.input.now true (sym c.is_expanded.ensures ∙ c.if-not-is_expanded.false) out)
 
 pub call_writes_none-returns-in-None : goal.call_writes_none-returns-in-None
 call_writes_none-returns-in-None t c =
     let out = subst (λ (exprs : List Expr). is_written_out true (FunctionOp c.args.function.now []) (length exprs) ≡ false) c.as_slice.ensures.value c.in-None.ensures in
-    c.all_write_none.ensures ∙ sym (called_writes c.args.function.now c.args.input.now false (sym c.is_expanded.ensures ∙ c.if-is_expanded.true) out)
+    c.all_write_none.ensures ∙ sym (called_writes c.args.function.now c.args.input.now false (sym c.is_expanded.ensures ∙ c.if-not-is_expanded.false) out)

@@ -1,4 +1,4 @@
-use Rattle.std.proofs.Common.{◌≡◌, List, [], ◌∙◌, false, length, subst, sym, ap}
+use Rattle.std.proofs.Common.{◌≡◌, List, [], ◌∙◌, false, true, length, subst, sym, ap}
 use Rattle.std.specs.Prelude.{slice_get}
 use Rattle.plan_dsl.specs.declared.expr.Expr.{Expr}
 use Rattle.plan_dsl.specs.Aliases.{is_written_out}

@@ -1,3 +1,4 @@
+use Rattle.std.proofs.Common.{false}
 use Rattle.plan_types.specs.Schemas.{columns}
 use Rattle.plan_types.proofs.ResultLemmas.{passed_on}
 use Rattle.plan_dsl.specs.Aliases.{pruned}

@@ -1,4 +1,4 @@
-use Rattle.std.proofs.Common.{◌≡◌, List, [], map, refl, sym, subst, arith}
+use Rattle.std.proofs.Common.{◌≡◌, true, List, [], map, refl, sym, subst, arith}
 use Rattle.plan_types.specs.Frames.{Frame}
 use Rattle.plan_dsl.specs.PlanMeaning.{source_meaning, FitsPlan}
 use Rattle.plan_arena.specs.declared.plan.IRPlan.{IRPlan}

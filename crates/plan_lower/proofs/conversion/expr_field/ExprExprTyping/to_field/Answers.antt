@@ -1,4 +1,4 @@
-use Rattle.std.proofs.Common.{◌≡◌, length, true, subst}
+use Rattle.std.proofs.Common.{◌≡◌, length, false, true, subst}
 use Rattle.plan_types.specs.Errors.{IsRefusal}
 use Rattle.plan_types.specs.Schemas.{columns}
 use Rattle.plan_types.proofs.ResultLemmas.{passed_on}
