@@ -1,4 +1,5 @@
 -- What is read from a word is called by it.
+use Rattle.std.proofs.Common.{refl}
 use Rattle.plan_dsl.specs.Words.{function_name, method_name}
 use Rattle.plan_dsl.specs.declared.aggregate.GroupByMethod.{GroupByMethod}
 use Rattle.plan_dsl.specs.declared.aggregate.GroupByMethod.TheVariants.{Min, Max, NUnique, First, Last, Implode, Sum, Count, Groups}
