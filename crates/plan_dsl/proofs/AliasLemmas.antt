@@ -146,8 +146,5 @@ pruned_label write (node (FunctionOp function (label ∷ recorded)) children) = 
 pruned_label write (node op (more tree trees)) = pruned_label write tree
 pruned_label write (node op no_more) = inr refl
 
-pub core_label : (tree : Expression) → NamedAlike (label_of tree) (label_of (core tree))
-core_label tree = pruned_label false tree
-
 pub spelled_label : (tree : Expression) → NamedAlike (label_of tree) (label_of (spelled tree))
 spelled_label tree = pruned_label true tree

@@ -5,6 +5,7 @@ use Rattle.std.specs.List.{range_with_len}
 use Rattle.plan_types.specs.Types.{Ty, NullType, Truth, Integer, TextType, DateType, TimeType, DatetimeType, DurationType, StructType, Untyped, fields_from}
 use Rattle.plan_types.specs.Values.{Val, NullValue, TruthValue, IntValue, TextValue, ListValue, StructValue}
 use Rattle.plan_types.specs.ValueViews.{values_from}
+pub use Rattle.plan_types.specs.Samples.{Maps as Gives, MapsPairs as GivesOfTwo, int8, int16, int32, int64, uint8, uint16, uint32, uint64, null, yes, no, number, negative, text}
 use Rattle.plan_types.specs.Schemas.{Name, Columns}
 use Rattle.plan_types.specs.Frames.{Frame, Row, row_numbers}
 use Rattle.plan_types.specs.Outcomes.{Outcome, Done}
@@ -38,43 +39,11 @@ use Rattle.plan_dsl.specs.PlanKernels.{Series}
 
 -- ---- tables of cases
 
--- the definition gives each case the answer that stands beside it
-abbrev pub Gives : {Case Answer : Type 0} → (Case → Answer) → List (Case × Answer) → Type 0
-Gives definition table = map (λ row. definition row.0) table ≡ map (λ row. row.1) table
-
--- a definition of two gives each pair of cases the answer that stands beside it
-abbrev pub GivesOfTwo : {First Second Answer : Type 0} → (First → Second → Answer) → List (First × Second × Answer) → Type 0
-GivesOfTwo definition table = map (λ row. definition row.0 row.1) table ≡ map (λ row. row.2) table
-
 -- the definition gives every case the one answer
 abbrev pub GivesAll : {Case Answer : Type 0} → (Case → Answer) → Answer → List Case → Type 0
 GivesAll definition answer cases = map definition cases ≡ map (λ _. answer) cases
 
 -- ---- types
-
-abbrev pub int8 : Ty
-int8 = Integer true 8
-
-abbrev pub int16 : Ty
-int16 = Integer true 16
-
-abbrev pub int32 : Ty
-int32 = Integer true 32
-
-abbrev pub int64 : Ty
-int64 = Integer true 64
-
-abbrev pub uint8 : Ty
-uint8 = Integer false 8
-
-abbrev pub uint16 : Ty
-uint16 = Integer false 16
-
-abbrev pub uint32 : Ty
-uint32 = Integer false 32
-
-abbrev pub uint64 : Ty
-uint64 = Integer false 64
 
 -- structs of fields of these names and types
 abbrev pub struct_type : Columns → Ty
@@ -97,24 +66,6 @@ abbrev pub no_times : List Ty
 no_times = NullType ∷ Truth ∷ int32 ∷ int64 ∷ TextType ∷ Untyped (pos 1) ∷ []
 
 -- ---- values
-
-abbrev pub null : Val
-null = NullValue
-
-abbrev pub yes : Val
-yes = TruthValue true
-
-abbrev pub no : Val
-no = TruthValue false
-
-abbrev pub number : ℕ → Val
-number size = IntValue (pos size)
-
-abbrev pub negative : ℕ → Val
-negative size = IntValue (neg_ℤ (pos size))
-
-abbrev pub text : String → Val
-text characters = TextValue (codes characters)
 
 abbrev pub list : List Val → Val
 list items = ListValue (values_from items)

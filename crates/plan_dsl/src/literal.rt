@@ -1,6 +1,6 @@
 //! Literals: values that are written in an expression.
 ghost use Rattle.std.specs.Prelude.{◌≡◌, ◌≢◌, ◌&&◌, ℤ, is_some, MatchOption, IfSome, IfOk, IfErr};
-ghost use Rattle.plan_dsl.specs.Literals.{is_literal, literal_op, literal_type, literal_value};
+ghost use Rattle.plan_dsl.specs.Literals.{is_literal, literal_op, literal_type, literal_value, settled_op};
 ghost use Rattle.plan_dsl.specs.Ops.{LiteralOp};
 ghost use Rattle.plan_dsl.specs.SameExpressions.{same_literal};
 ghost use Rattle.plan_types.specs.Errors.{no_memory};
@@ -117,6 +117,23 @@ impl LiteralValue {
             | DataType::List(_)
             | DataType::Struct(_)
             | DataType::Unknown(_) => None,
+        }
+    }
+
+    /// Gives a whole number without a type the one that it has alone, if there is one.
+    pub fn settle(&mut self)
+        ensures { literal_op self.new ≡ settled_op (literal_op self.old) }
+    {
+        let LiteralValue::Int(number) = self else {
+            return;
+        };
+        let number = *number;
+        let Some(alone) = materialize_dyn_int(number) else {
+            return;
+        };
+        match LiteralValue::of_number(&alone, number) {
+            Some(typed) => *self = typed,
+            None => unreachable!(),
         }
     }
 

@@ -142,8 +142,8 @@ pub fn meanings_of_columns_sorted_by_keys()
 pub fn trees_of_sorts_by_keys()
     ensures tree { (expr : Box Expr) (by : Exprs) (options : SortMultipleOptions) → tree_of (SortBy expr by options)
         ≡ node (Plain (SortByOp options.descending.items.value.items options.nulls_last.items.value.items)) (more (tree_of expr.value) (children_from (trees_of by))) }
-    ensures children { Gives {Case = List Expression} children_from (([], no_more) ∷ (a ∷ [], more a no_more) ∷ (a ∷ b ∷ [], more a (more b no_more)) ∷ []) }
-    ensures counts { Gives {Case = List Expression} (λ trees. tree_count (children_from trees)) (([], 0) ∷ (a ∷ [], 1) ∷ (a ∷ b ∷ a ∷ [], 3) ∷ []) }
+    ensures children { Gives {A = List Expression} children_from (([], no_more) ∷ (a ∷ [], more a no_more) ∷ (a ∷ b ∷ [], more a (more b no_more)) ∷ []) }
+    ensures counts { Gives {A = List Expression} (λ trees. tree_count (children_from trees)) (([], 0) ∷ (a ∷ [], 1) ∷ (a ∷ b ∷ a ∷ [], 3) ∷ []) }
     ensures without_aliases { Gives core ((rising_by (alias "k" b ∷ a ∷ []) (alias "x" a), rising_by (b ∷ a ∷ []) a) ∷ []) }
 {}
 
