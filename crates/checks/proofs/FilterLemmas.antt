@@ -19,7 +19,7 @@ use Rattle.plan_arena.proofs.ItemLemmas.{grown_held, plan_added, plan_tree_kept}
 use Rattle.plan_coerce.specs.Optimizer.{StaysOver}
 use Rattle.plan_coerce.specs.Rules.{HasUncheckedInputs}
 use Rattle.plan_coerce.proofs.PlanNodeLemmas.{filter_node, over_accepted}
-use Rattle.plan_coerce.proofs.UncheckedLemmas.{accepted_schema, one_schema}
+use Rattle.plan_arena.proofs.UncheckedLemmas.{accepted_schema, one_schema}
 
 module _ (registry : Registry) (old items : List AExpr) (plans filtered : List IR) (input : Node) (n : ℕ) (predicate : ExprIR) (t : Plan) (e : Expression) (grows : Grows old items) (longer : filtered ≡ plans ++ Filter input predicate ∷ []) (at : n ≡ length plans) (denotes : Denotes (HoldsPlan old plans) input.0 t) (accepted : IsAccepted registry t) (tree : Denotes (HoldsExpression items) (named_node predicate).expression e) where
   abbrev output : Named Expression

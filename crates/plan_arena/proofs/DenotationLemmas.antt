@@ -29,6 +29,12 @@ same_or_other m n =
 pub some_same : {A : Type 0} (o : Option A) (x y : A) → o ≡ Some x → o ≡ Some y → x ≡ y
 some_same o x y p q = cc
 
+-- nodes that denote trees side by side denote one each
+pub all_denote : {Op : Type 0} (holds : ℕ → Op → List ℕ → Type 0) (ns : List ℕ) (ts : Trees Op) → DenoteAll holds ns ts → AllByRecursion (DenotesTree holds) ns
+all_denote holds [] ts d = tt
+all_denote holds (n ∷ ns) (more t ts) d = (record { tree = t; denotes = d.0 }, all_denote holds ns ts d.1)
+all_denote holds (n ∷ ns) no_more d = absurd d
+
 module _ {Op : Type 0} (shape : List (List ℕ)) (holds : ℕ → Op → List ℕ → Type 0) (laws : HasShape shape holds) where
   same_inputs : (n : ℕ) (op op' : Op) (inputs inputs' : List ℕ) → holds n op inputs → holds n op' inputs' → inputs ≡ inputs'
   same_inputs n op op' inputs inputs' h h' = some_same (slice_get shape n) inputs inputs' (laws.there n op inputs h) (laws.there n op' inputs' h')

@@ -1,27 +1,22 @@
 -- The two arenas hold what their items say, and keep it as they grow or change at one node.
-use Rattle.std.proofs.Common.{◌≡◌, ◌≢◌, ℕ, ◌+◌, ◌<◌, ◌≤◌, List, [], ◌∷◌, ◌++◌, length, map, set, Option, Some, None, is_some, IsTrue, slice_get, sym, ap, ◌∙◌, subst, refl, arith, length-append, append_assoc}
+use Rattle.std.proofs.Common.{◌≡◌, ◌≢◌, ℕ, ◌+◌, ◌<◌, ◌≤◌, List, [], ◌∷◌, ◌++◌, length, map, set, Some, is_some, IsTrue, slice_get, sym, ap, ◌∙◌, subst, refl, arith, length-append, append_assoc}
 use Rattle.std.specs.List.{AllByRecursion}
 use Rattle.std.specs.Option.{option_map}
 use Rattle.std.proofs.lemmas.Option.{slice_get-map, slice_get_within}
 use Rattle.std.proofs.lemmas.List.{map-append, map-set, length-map}
 use Rattle.plan_types.proofs.ListLemmas.{slice_get-append, slice_get-seam, slice_get-set_other, slice_get-set_same}
 use Rattle.plan_dsl.specs.Ops.{Op, Expression}
-use Rattle.plan_dsl.specs.Plans.{Named, PlanKind, ScanKind, SelectKind, HStackKind, GroupByKind, FilterKind, SimpleProjectionKind, DropKind, RefusedKind, PlanOp, Plan, filter_op}
-use Rattle.plan_dsl.specs.PlanRules.{broken_kinds, where_unbroken, plan_rule, schema_of}
-use Rattle.plan_dsl.specs.Registry.{Registry}
-use Rattle.plan_types.specs.Schemas.{Columns}
-use Rattle.plan_types.specs.declared.error.ErrorKind.{ErrorKind}
+use Rattle.plan_dsl.specs.Plans.{Named, PlanKind, ScanKind, SelectKind, HStackKind, GroupByKind, FilterKind, SimpleProjectionKind, DropKind, RefusedKind, PlanOp, Plan}
 use Rattle.plan_dsl.specs.Trees.{Trees, node, no_more, more}
 use Rattle.plan_arena.specs.Denotation.{Denotes, DenoteAll, DenotesTree, greatest, depth_at}
 use Rattle.plan_arena.specs.Layers.{Layer, layer, inputs_of, op_of, shape_of}
 use Rattle.plan_arena.specs.Items.{expression_layer, plan_layer, HoldsExpression, HoldsFrom, DenoteNamed, DenotesKind, DenotesOp, HoldsPlan, DenotesItem, HasInputs, Grows}
-use Rattle.plan_arena.specs.Runs.{HasRecorded, IsAccepted, AllAccepted}
 use Rattle.plan_arena.specs.declared.aexpr.AExpr.{AExpr}
 use Rattle.plan_arena.specs.declared.ir.IR.{IR}
 use Rattle.plan_arena.specs.declared.ir.IR.TheVariants.{DataFrameScan, Filter, GroupBy, HStack, Select, SimpleProjection, Invalid}
 use Rattle.plan_arena.specs.declared.arena.Node.{Node}
 use Rattle.plan_arena.specs.declared.expr_ir.ExprIR.{ExprIR}
-use Rattle.plan_arena.proofs.DenotationLemmas.{HasShape, some_same, denotes_one, kept, inputs_denote, depth_of_inputs}
+use Rattle.plan_arena.proofs.DenotationLemmas.{HasShape, all_denote, some_same, denotes_one, kept, inputs_denote, depth_of_inputs}
 
 pub layer_op : {Op : Type 0} (a b : Op) (ms ns : List ℕ) → layer a ms ≡ layer b ns → a ≡ b
 layer_op a b ms ns e = cc
@@ -203,25 +198,6 @@ is_valid expressions Invalid flat inputs op is d e =
 abbrev pub item_depth : List IR → IR → ℕ
 item_depth plans item = 1 + greatest (depth_at (shape_of (map plan_layer plans))) (inputs_of (plan_layer item))
 
-unbroken_is : (kinds : List ErrorKind) (schema : Option Columns) → IsTrue (is_some (where_unbroken kinds schema)) → where_unbroken kinds schema ≡ schema
-unbroken_is [] schema h = refl
-unbroken_is (kind ∷ kinds) schema h = absurd cc
-
-abbrev filter_by : Named Expression → Option Columns → PlanOp (Named Expression)
-filter_by predicate recorded = record { kind = FilterKind predicate; recorded = recorded }
-
-filtered_schema : (registry : Registry) (predicate : Named Expression) (recorded : Option Columns) (schema : Option Columns) → IsTrue (is_some (plan_rule registry (filter_by predicate recorded) (schema ∷ []))) → plan_rule registry (filter_by predicate recorded) (schema ∷ []) ≡ schema
-filtered_schema registry predicate recorded None h = unbroken_is (broken_kinds registry (filter_by predicate recorded) (None ∷ [])) None h
-filtered_schema registry predicate recorded (Some schema) h =
-    unbroken_is (broken_kinds registry (filter_by predicate recorded) (Some schema ∷ [])) (Some schema) h
-
--- a filter that has a schema has that of its input
-filter_keeps : (registry : Registry) (op : PlanOp (Named Expression)) (predicate : Named Expression) → op.kind ≡ FilterKind predicate → (schema : Option Columns) → IsTrue (is_some (plan_rule registry op (schema ∷ []))) → plan_rule registry op (schema ∷ []) ≡ schema
-filter_keeps registry op predicate kind schema h =
-    let rule : plan_rule registry op (schema ∷ []) ≡ plan_rule registry (filter_by predicate op.recorded) (schema ∷ []) =
-    ap (λ (k : PlanKind (Named Expression)). plan_rule registry (record { kind = k; recorded = op.recorded }) (schema ∷ [])) kind in
-    rule ∙ filtered_schema registry predicate op.recorded schema (subst (λ o. IsTrue (is_some o)) rule h)
-
 module _ (expressions : List AExpr) (plans : List IR) where
   -- a node that denotes a plan, with the item that `get` answers
   module _ (n : ℕ) (item : IR) (got : slice_get plans n ≡ Some item) where
@@ -232,15 +208,10 @@ module _ (expressions : List AExpr) (plans : List IR) where
     pub item_denotes : (t : Plan) → Denotes (HoldsPlan expressions plans) n t → DenotesItem expressions plans item t
     item_denotes (node op ts) d = (d.0, record { flat = d.1.flat; is = item_is op d.0 d.1; denotes = d.1.denotes }, d.2)
 
-    each_denotes : (ns : List ℕ) (ts : Trees (PlanOp (Named Expression))) → DenoteAll (HoldsPlan expressions plans) ns ts → AllByRecursion (DenotesTree (HoldsPlan expressions plans)) ns
-    each_denotes [] ts d = tt
-    each_denotes (m ∷ ms) (more t ts) d = (record { tree = t; denotes = d.0 }, each_denotes ms ts d.1)
-    each_denotes (m ∷ ms) no_more d = absurd d
-
     inputs_of_plan : (t : Plan) → Denotes (HoldsPlan expressions plans) n t → HasInputs plans item
     inputs_of_plan (node op ts) d =
         let same = ap inputs_of (item_is op d.0 d.1) in
-        record { valid = is_valid expressions item d.1.flat d.0 op (item_is op d.0 d.1) d.1.denotes; expressions = expressions; each = subst (AllByRecursion (DenotesTree (HoldsPlan expressions plans))) (sym same) (each_denotes d.0 ts d.2) }
+        record { valid = is_valid expressions item d.1.flat d.0 op (item_is op d.0 d.1) d.1.denotes; expressions = expressions; each = subst (AllByRecursion (DenotesTree (HoldsPlan expressions plans))) (sym same) (all_denote (HoldsPlan expressions plans) d.0 ts d.2) }
 
     -- the item's inputs denote plans
     pub item_inputs : DenotesTree (HoldsPlan expressions plans) n → HasInputs plans item
@@ -255,34 +226,6 @@ module _ (expressions : List AExpr) (plans : List IR) where
     -- the item leads as far down as the node
     pub depth_of_item : DenotesTree (HoldsPlan expressions plans) n → depth_at (shape_of (map plan_layer plans)) n ≡ item_depth plans item
     depth_of_item d = depth_of_plan d.tree d.denotes
-
-  -- an item that denotes a plan, by what it does
-  module _ (item : IR) (flat : PlanOp (Named ℕ)) (inputs : List ℕ) (is : plan_layer item ≡ layer flat inputs) where
-    op_of_item : (op : PlanOp (Named Expression)) (ts : Trees (PlanOp (Named Expression))) (d : DenotesItem expressions plans item (node op ts)) → d.1.flat ≡ flat
-    op_of_item op ts d = layer_op d.1.flat flat d.0 inputs (sym d.1.is ∙ is)
-
-    -- the schema that an item records is its plan's by the rules
-    pub item_recorded : (registry : Registry) (schema : Columns) → flat.recorded ≡ Some schema → (t : Plan) → DenotesItem expressions plans item t → IsAccepted registry t → schema_of registry t ≡ Some schema
-    item_recorded registry schema recorded (node op ts) d accepted =
-        let same = sym d.1.denotes.same_recorded ∙ ap (λ (f : PlanOp (Named ℕ)). f.recorded) (op_of_item op ts d) ∙ recorded in
-        subst (λ r. HasRecorded r (schema_of registry (node op ts))) same accepted.0
-
-  -- a filter's item, whose input is known
-  module _ (item : IR) (predicate : Named ℕ) (n : ℕ) (is : plan_layer item ≡ layer (filter_op predicate) (n ∷ [])) where
-    filter_children : (registry : Registry) (op : PlanOp (Named Expression)) (e : Named Expression) → op.kind ≡ FilterKind e → (ts : Trees (PlanOp (Named Expression))) → DenoteAll (HoldsPlan expressions plans) (n ∷ []) ts → IsTrue (is_some (schema_of registry (node op ts))) → AllAccepted registry ts → (t : Plan) × Denotes (HoldsPlan expressions plans) n t × IsAccepted registry t × (schema_of registry (node op ts) ≡ schema_of registry t)
-    filter_children registry op e kind (more t no_more) d there accepted = (t, d.0, accepted.0, filter_keeps registry op e kind (schema_of registry t) there)
-    filter_children registry op e kind no_more d there accepted = absurd d
-    filter_children registry op e kind (more t (more u ts)) d there accepted = absurd d.1
-
-    -- a filter has the schema of its input
-    pub filter_item : (registry : Registry) (t : Plan) → DenotesItem expressions plans item t → IsAccepted registry t → (u : Plan) × Denotes (HoldsPlan expressions plans) n u × IsAccepted registry u × (schema_of registry t ≡ schema_of registry u)
-    filter_item registry (node op ts) d accepted =
-        let flats = op_of_item item (filter_op predicate) (n ∷ []) is op ts d in
-        let inputs = layer_inputs d.1.flat (filter_op predicate) d.0 (n ∷ []) (sym d.1.is ∙ is) in
-        let kind = subst (λ (f : PlanOp (Named ℕ)). DenotesKind expressions f.kind op.kind) flats d.1.denotes.kind in
-        let none = sym d.1.denotes.same_recorded ∙ ap (λ (f : PlanOp (Named ℕ)). f.recorded) flats in
-        let there = subst (λ r. HasRecorded r (schema_of registry (node op ts))) none accepted.0 in
-        filter_children registry op kind.0 kind.1 ts (subst (λ ns. DenoteAll (HoldsPlan expressions plans) ns ts) inputs d.2) there accepted.1
 
 -- what an item with one input stands over, and how much further down the item leads
 module _ (plans : List IR) (item : IR) (flat : PlanOp (Named ℕ)) (n : ℕ) (is : plan_layer item ≡ layer flat (n ∷ [])) (h : HasInputs plans item) where

@@ -5,7 +5,7 @@ use Rattle.plan_dsl.specs.Names.{Label, column_label, first_label, label_of, lit
 use Rattle.plan_dsl.specs.Ops.{Op, Expression}
 use Rattle.plan_arena.specs.declared.aexpr.AExpr.{AExpr}
 use Rattle.plan_arena.specs.Denotation.{Denotes, DenoteAll, DenotesTree, depth_at}
-use Rattle.plan_arena.specs.Layers.{layer, op_of, inputs_of, shape_of}
+use Rattle.plan_arena.specs.Layers.{Layer, layer, op_of, inputs_of, shape_of}
 use Rattle.plan_arena.specs.Items.{AreNamesOver, expression_layer, HoldsExpression}
 use Rattle.plan_arena.proofs.DenotationLemmas.{some_same}
 use Rattle.plan_arena.proofs.ItemLemmas.{expression_got, expression_inputs}
@@ -42,44 +42,58 @@ labels_over items [] no_more d = refl
 labels_over items [] (more t ts) d = absurd d
 labels_over items (n ∷ ns) ts d = tt
 
+module _ (items : List AExpr) where
+  first_child : (first : ℕ) (rest : List ℕ) (ts : Trees Op) (label : Label) → DenoteAll (HoldsExpression items) (first ∷ rest) ts → ((t : Expression) → Denotes (HoldsExpression items) first t → label ≡ label_of t) → label ≡ first_label (fold_all op_label ts)
+  first_child first rest (more t ts) label d named = named t d.0
+  first_child first rest no_more label d named = absurd d
+
+  no_child : (ts : Trees Op) → DenoteAll (HoldsExpression items) [] ts → first_label (fold_all op_label ts) ≡ literal_label (codes "literal")
+  no_child no_more d = refl
+  no_child (more t ts) d = absurd d
+
+-- what an item denotes, by its op and its inputs
+module _ (items : List AExpr) (item : Layer Op) where
+  -- it has a name of its own
+  own_labelled : (label : Label) → ((labels : List Label) → op_label (op_of item) labels ≡ label) → (op : Op) (ts : Trees Op) → op_of item ≡ op → label ≡ label_of (node op ts)
+  own_labelled label own op ts is = sym (own (fold_all op_label ts)) ∙ ap (λ o. op_label o (fold_all op_label ts)) is
+
+  -- or that of its first input
+  module _ (inner : (labels : List Label) → op_label (op_of item) labels ≡ first_label labels) (op : Op) (ts : Trees Op) (is : op_of item ≡ op) (d : DenoteAll (HoldsExpression items) (inputs_of item) ts) where
+    by_first : label_of (node op ts) ≡ first_label (fold_all op_label ts)
+    by_first = ap (λ o. op_label o (fold_all op_label ts)) (sym is) ∙ inner (fold_all op_label ts)
+
+    pub labelled_by_first : (first : ℕ) → slice_get (inputs_of item) 0 ≡ Some first → (label : Label) → ((t : Expression) → Denotes (HoldsExpression items) first t → label ≡ label_of t) → label ≡ label_of (node op ts)
+    labelled_by_first first there label named =
+        let split = first_there (inputs_of item) first there in
+        first_child items first split.0 ts label (subst (λ ns. DenoteAll (HoldsExpression items) ns ts) split.1 d) named ∙ sym by_first
+
+    -- one without inputs is named as a literal
+    pub labelled_as_literal : inputs_of item ≡ [] → (label : Label) → label ≡ literal_label (codes "literal") → label ≡ label_of (node op ts)
+    labelled_as_literal none label is = is ∙ sym (no_child items ts (subst (λ ns. DenoteAll (HoldsExpression items) ns ts) none d)) ∙ sym by_first
+
+-- so has a node that has it
 module _ (items : List AExpr) (n : ℕ) (item : AExpr) (got : slice_get items n ≡ Some item) where
   held : (op : Op) (inputs : List ℕ) → HoldsExpression items n op inputs → expression_layer item ≡ layer op inputs
   held op inputs h = some_same (slice_get (map expression_layer items) n) (expression_layer item) (layer op inputs) (expression_got items n item got) h
 
-  op_held : (op : Op) (inputs : List ℕ) → HoldsExpression items n op inputs → op_of (expression_layer item) ≡ op
+  -- what the node denotes has the item's op over what the item's inputs denote
+  pub op_held : (op : Op) (inputs : List ℕ) → HoldsExpression items n op inputs → op_of (expression_layer item) ≡ op
   op_held op inputs h = ap op_of (held op inputs h)
 
-  -- a node with a name of its own
+  pub inputs_held : (op : Op) (inputs : List ℕ) → HoldsExpression items n op inputs → (ts : Trees Op) → DenoteAll (HoldsExpression items) inputs ts → DenoteAll (HoldsExpression items) (inputs_of (expression_layer item)) ts
+  inputs_held op inputs h ts d = subst (λ ns. DenoteAll (HoldsExpression items) ns ts) (sym (ap inputs_of (held op inputs h))) d
+
   pub own_label : (label : Label) → ((labels : List Label) → op_label (op_of (expression_layer item)) labels ≡ label) → (t : Expression) → Denotes (HoldsExpression items) n t → label ≡ label_of t
-  own_label label own (node op ts) d =
-      sym (own (fold_all op_label ts)) ∙ ap (λ o. op_label o (fold_all op_label ts)) (op_held op d.0 d.1)
+  own_label label own (node op ts) d = own_labelled items (expression_layer item) label own op ts (op_held op d.0 d.1)
 
-  -- a node with that of its first input
   module _ (inner : (labels : List Label) → op_label (op_of (expression_layer item)) labels ≡ first_label labels) where
-    by_first : (op : Op) (ts : Trees Op) → op_of (expression_layer item) ≡ op → label_of (node op ts) ≡ first_label (fold_all op_label ts)
-    by_first op ts is = ap (λ o. op_label o (fold_all op_label ts)) (sym is) ∙ inner (fold_all op_label ts)
-
-    first_child : (first : ℕ) (rest : List ℕ) (ts : Trees Op) (label : Label) → DenoteAll (HoldsExpression items) (first ∷ rest) ts → ((t : Expression) → Denotes (HoldsExpression items) first t → label ≡ label_of t) → label ≡ first_label (fold_all op_label ts)
-    first_child first rest (more t ts) label d named = named t d.0
-    first_child first rest no_more label d named = absurd d
-
-    no_child : (ts : Trees Op) → DenoteAll (HoldsExpression items) [] ts → first_label (fold_all op_label ts) ≡ literal_label (codes "literal")
-    no_child no_more d = refl
-    no_child (more t ts) d = absurd d
-
     pub named_by_first : (first : ℕ) → slice_get (inputs_of (expression_layer item)) 0 ≡ Some first → (label : Label) → ((t : Expression) → Denotes (HoldsExpression items) first t → label ≡ label_of t) → (t : Expression) → Denotes (HoldsExpression items) n t → label ≡ label_of t
     named_by_first first there label named (node op ts) d =
-        let split = first_there (inputs_of (expression_layer item)) first there in
-        let inputs = sym (ap inputs_of (held op d.0 d.1)) ∙ split.1 in
-        first_child first split.0 ts label (subst (λ ns. DenoteAll (HoldsExpression items) ns ts) inputs d.2) named
-        ∙ sym (by_first op ts (op_held op d.0 d.1))
+        labelled_by_first items (expression_layer item) inner op ts (op_held op d.0 d.1) (inputs_held op d.0 d.1 ts d.2) first there label named
 
-    -- one without inputs is named as a literal
     pub named_without_inputs : slice_get (inputs_of (expression_layer item)) 0 ≡ None → (label : Label) → label ≡ literal_label (codes "literal") → (t : Expression) → Denotes (HoldsExpression items) n t → label ≡ label_of t
     named_without_inputs there label is (node op ts) d =
-        let inputs = sym (ap inputs_of (held op d.0 d.1)) ∙ none_there (inputs_of (expression_layer item)) there in
-        is ∙ sym (no_child ts (subst (λ ns. DenoteAll (HoldsExpression items) ns ts) inputs d.2))
-        ∙ sym (by_first op ts (op_held op d.0 d.1))
+        labelled_as_literal items (expression_layer item) inner op ts (op_held op d.0 d.1) (inputs_held op d.0 d.1 ts d.2) (none_there (inputs_of (expression_layer item)) there) label is
 
   first_denotes : (first : ℕ) (t : Expression) → slice_get (inputs_of (expression_layer item)) 0 ≡ Some first → Denotes (HoldsExpression items) n t → DenotesTree (HoldsExpression items) first × (depth_at (shape_of (map expression_layer items)) first < depth_at (shape_of (map expression_layer items)) n)
   first_denotes first (node op ts) there d =

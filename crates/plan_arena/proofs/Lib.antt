@@ -9,4 +9,5 @@ pub mod OptionLemmas
 pub mod PlanSchemaLemmas
 pub mod RecordedSchemaLemmas
 pub mod RunLemmas
+pub mod UncheckedLemmas
 pub mod WindowLemmas

@@ -1,24 +1,18 @@
--- Schemas as nodes record them, and caches of them.
-use Rattle.std.proofs.Common.{◌≡◌, ◌≢◌, ℕ, List, [], ◌∷◌, Bool, true, false, cond, Option, Some, None, slice_get, refl, sym, ap, ◌∙◌, subst}
-use Rattle.std.specs.BTreeMap.{BTreeMap, is_at}
-use Rattle.plan_types.specs.Schemas.{Columns, columns}
-use Rattle.plan_types.specs.declared.schema.Schema.{Schema}
+-- Schemas as nodes record them.
+use Rattle.std.proofs.Common.{◌≡◌, ℕ, List, [], ◌∷◌, Some, None, slice_get, sym, ap, ◌∙◌, subst}
+use Rattle.plan_types.specs.Schemas.{Columns}
 use Rattle.plan_dsl.specs.Trees.{Trees, node, no_more, more, fold_all}
 use Rattle.plan_dsl.specs.Ops.{Expression}
 use Rattle.plan_dsl.specs.Plans.{Named, PlanKind, PlanOp, Plan, filter_op}
 use Rattle.plan_dsl.specs.PlanRules.{input_schema}
 use Rattle.plan_arena.specs.declared.aexpr.AExpr.{AExpr}
-use Rattle.plan_arena.specs.declared.arena.Node.{Node}
 use Rattle.plan_arena.specs.declared.ir.IR.{IR}
-use Rattle.plan_arena.specs.contracts.arena.NodeOrd.TheImpl as node_order
 use Rattle.plan_arena.specs.Denotation.{Denotes, DenoteAll}
 use Rattle.plan_arena.specs.Layers.{Layer, inputs_of, layer, op_of}
 use Rattle.plan_arena.specs.Items.{HoldsPlan, DenotesItem, plan_layer}
-use Rattle.plan_arena.specs.PlanSchemas.{cached_at}
-use Rattle.plan_arena.specs.RecordedSchemas.{IsRecordedAt, KeepsRecorded, recorded_into, recorded_over, schema_recorded}
+use Rattle.plan_arena.specs.RecordedSchemas.{IsRecordedAt, recorded_into, recorded_over, schema_recorded}
 use Rattle.plan_arena.specs.Runs.{own_schema}
 use Rattle.plan_arena.proofs.ItemLemmas.{item_denotes, layer_inputs, layer_op}
-use Rattle.plan_arena.proofs.PlanSchemaLemmas.{same_number}
 
 -- a schema is recorded of whatever plan an item denotes
 abbrev pub RecordsSchema : List IR → IR → Columns → Type 0
@@ -58,27 +52,3 @@ first_records plans item below first schema there got has expressions op ts d =
 -- and of a node that has the item
 pub recorded_at_node : (plans : List IR) (n : ℕ) (item : IR) (schema : Columns) → slice_get plans n ≡ Some item → RecordsSchema plans item schema → IsRecordedAt plans n schema
 recorded_at_node plans n item schema got records expressions plan d = records expressions plan (item_denotes expressions plans n item got plan d)
-
--- what a cache keeps where one more schema is kept of a node: that of the node, and of others what it kept
-module _ (old new : BTreeMap Node Schema) (at : Node) (kept : Schema) (updated : (n : Node) → cached_at new n ≡ cond (is_at ((node_order.ghosts).cmp at) n) (Some kept) (cached_at old n)) where
-  other_by : (test : Bool) (n : Node) (before now : Option Schema) → (test ≡ true → at.0 ≡ n.0) → now ≡ cond test (Some kept) before → n ≢ at → now ≡ before
-  other_by true n before now same is other =
-      let numbers = sym (same refl) in
-      let one : n ≡ at = λ i. record { 0 = numbers i } in
-      absurd (other one)
-  other_by false n before now same is other = is
-
-  pub others_stay : (n : Node) → n ≢ at → cached_at new n ≡ cached_at old n
-  others_stay n other = other_by (is_at ((node_order.ghosts).cmp at) n) n (cached_at old n) (cached_at new n) (same_number at n) (updated n) other
-
-  recorded_by : (plans : List IR) (test : Bool) (n : ℕ) (schema : Schema) (before now : Option Schema) → (test ≡ true → at.0 ≡ n) → now ≡ cond test (Some kept) before → IsRecordedAt plans at.0 (columns kept) → (before ≡ Some schema → IsRecordedAt plans n (columns schema)) → now ≡ Some schema → IsRecordedAt plans n (columns schema)
-  recorded_by plans true n schema before now same is here earlier there =
-      let one : kept ≡ schema = cc in
-      subst (λ k. IsRecordedAt plans k (columns schema)) (same refl) (subst (λ (s : Schema). IsRecordedAt plans at.0 (columns s)) one here)
-  recorded_by plans false n schema before now same is here earlier there = earlier (sym is ∙ there)
-
-  -- it keeps recorded schemas where it did
-  pub keeps_recorded : (plans : List IR) → IsRecordedAt plans at.0 (columns kept) → KeepsRecorded plans old → KeepsRecorded plans new
-  keeps_recorded plans here keeps = record {
-    each = λ n schema there. recorded_by plans (is_at ((node_order.ghosts).cmp at) n) n.0 schema (cached_at old n) (cached_at new n) (same_number at n) (updated n) here (keeps.each n schema) there;
-  }

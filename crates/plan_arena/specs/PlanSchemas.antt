@@ -22,10 +22,14 @@ abbrev pub scanned : {E : Type 0} → PlanKind E → Option Columns
 scanned (ScanKind table schema) = Some schema
 scanned kind = None
 
--- the schema that goes into a node: that of its first input, or a scan's own
+-- the schema that goes into a node, by those of plans: that of its first input, or a scan's own
+abbrev pub into_by : (Plan → Option Columns) → PlanKind (Named Expression) → Trees (PlanOp (Named Expression)) → Option Columns
+into_by schema kind (more first rest) = schema first
+into_by schema kind no_more = scanned kind
+
+-- by the rules
 abbrev pub schema_into : Registry → PlanKind (Named Expression) → Trees (PlanOp (Named Expression)) → Option Columns
-schema_into registry kind (more first rest) = schema_of registry first
-schema_into registry kind no_more = scanned kind
+schema_into registry = into_by (schema_of registry)
 
 -- the node denotes a plan, with some arena of expressions
 pub record DenotesSomePlan (plans : List IR) (n : ℕ) : Type 0 where
@@ -41,6 +45,10 @@ pub record IsSchemaAt (plans : List IR) (n : ℕ) (schema : Columns) : Type 0 wh
 abbrev pub cached_at : BTreeMap Node Schema → Node → Option Schema
 cached_at cache n = get (node_order.ghosts).cmp cache n
 
--- each schema that is kept is that of its node
-pub record IsRightCache (plans : List IR) (cache : BTreeMap Node Schema) : Type 0 where
-  pub each : (n : Node) (schema : Schema) → cached_at cache n ≡ Some schema → IsSchemaAt plans n.0 (columns schema)
+-- each schema that a cache keeps is such a one of its node
+pub record KeepsEach (Is : ℕ → Columns → Type 0) (cache : BTreeMap Node Schema) : Type 0 where
+  pub each : (n : Node) (schema : Schema) → cached_at cache n ≡ Some schema → Is n.0 (columns schema)
+
+-- that of its node
+abbrev pub IsRightCache : List IR → BTreeMap Node Schema → Type 0
+IsRightCache plans = KeepsEach (IsSchemaAt plans)

@@ -4,6 +4,7 @@ use Rattle.std.specs.Prelude.{ℕ, List, [], ◌∷◌, map, codes, Some}
 use Rattle.plan_types.specs.Types.{Ty}
 use Rattle.plan_types.specs.Schemas.{Columns}
 use Rattle.plan_types.specs.Frames.{Frame}
+use Rattle.plan_types.specs.declared.schema.Schema.{Schema}
 use Rattle.plan_types.specs.declared.dtype.CastOptions.TheVariants.{Strict, NonStrict}
 use Rattle.plan_types.specs.declared.dtype.DataType.TheVariants.{Int32}
 use Rattle.plan_dsl.specs.declared.function_expr.FunctionExpr.TheVariants.{FillNull}
@@ -18,6 +19,8 @@ use Rattle.plan_arena.specs.declared.aexpr.AExpr.{AExpr}
 use Rattle.plan_arena.specs.declared.aexpr.AExpr.TheVariants.{Column, BinaryExpr, Cast}
 use Rattle.plan_arena.specs.declared.expr_ir.ExprIR.{ExprIR}
 use Rattle.plan_arena.specs.declared.expr_ir.OutputName.TheVariants.{ColumnLhs}
+use Rattle.plan_arena.specs.declared.ir.IR.{IR}
+use Rattle.plan_arena.specs.declared.ir.IR.TheVariants.{DataFrameScan, Filter}
 
 abbrev pub node_at : ℕ → Node
 node_at number = record { 0 = number }
@@ -53,6 +56,14 @@ circle = Cast (node_at 0) Int32 NonStrict ∷ []
 -- a schema of one column
 abbrev pub schema_of_one : String → Ty → Columns
 schema_of_one name type = (codes name, type) ∷ []
+
+-- two columns of one name
+abbrev pub named_twice : Columns
+named_twice = (codes "a", int8) ∷ (codes "a", int32) ∷ []
+
+-- a scan and a filter over it, by the expression at node 0
+abbrev pub filtered_scan : Schema → List IR
+filtered_scan schema = DataFrameScan (Some 0) schema ∷ Filter (node_at 0) (a_at 0) ∷ []
 
 -- a lowered select and a lowered simple projection, which record their schemas
 abbrev pub lowered_select : Columns → List Expression → Plan → Plan

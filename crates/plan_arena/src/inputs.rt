@@ -94,11 +94,17 @@ impl<'a> Inputs<'a> {
         }
     }
 
-    // A list of nodes with names.
     pub(crate) fn named(exprs: &'a ExprIRs) -> Inputs<'a>
         ensures { result ≡ numbers_named exprs.now.items.items }
     {
-        Inputs::some(0, Node(0), Node(0), Node(0), &[], exprs.items.as_slice())
+        Inputs::of_exprs(exprs.items.as_slice())
+    }
+
+    /// A list of nodes with names.
+    pub fn of_exprs(exprs: &'a [ExprIR]) -> Inputs<'a>
+        ensures { result ≡ numbers_named exprs.now }
+    {
+        Inputs::some(0, Node(0), Node(0), Node(0), &[], exprs)
     }
 
     // So many of these, and then two lists.

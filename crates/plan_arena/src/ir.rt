@@ -10,6 +10,7 @@ ghost use Rattle.plan_arena.specs.Layers.{op_of};
 ghost use Rattle.plan_arena.specs.Options.{option_of};
 ghost use Rattle.plan_arena.specs.RecordedSchemas.{schema_recorded};
 ghost use Rattle.plan_arena.specs.Runs.{IsAccepted};
+ghost use Rattle.plan_arena.specs.Unchecked.{unchecked_schema, KeepsOtherRules};
 ghost use Rattle.plan_arena.specs.declared.aexpr.AExpr.{AExpr};
 
 use crate::arena::{Arena, Node};
@@ -87,13 +88,29 @@ impl IR {
                 input,
                 schema,
                 options,
-            } => hstack_copy(exprs, *input, schema, *options, alloc),
+            } => {
+                let (exprs, schema) = columns_copy(exprs, schema, alloc)?;
+                Ok(IR::HStack {
+                    exprs,
+                    input: *input,
+                    schema,
+                    options: *options,
+                })
+            }
             IR::Select {
                 expr,
                 input,
                 schema,
                 options,
-            } => select_copy(expr, *input, schema, *options, alloc),
+            } => {
+                let (expr, schema) = columns_copy(expr, schema, alloc)?;
+                Ok(IR::Select {
+                    expr,
+                    input: *input,
+                    schema,
+                    options: *options,
+                })
+            }
             IR::SimpleProjection { input, columns } => projection_copy(*input, columns, alloc),
             IR::Invalid => Ok(IR::Invalid),
         }
@@ -114,8 +131,8 @@ impl IR {
         }
     }
 
-    /// The schema of the node's frame: the one that it records, or else a node below, and of a plan that is accepted
-    /// the one that the rules give it. The node's inputs lie in the arena.
+    /// The schema of the node's frame: the one that it records, or else a node below, and of a plan that keeps every rule,
+    /// that on a predicate's type aside, the one that the rules give it. The node's inputs lie in the arena.
     pub fn schema(
         &self,
         alloc: Global,
@@ -126,6 +143,8 @@ impl IR {
         ensures recorded { IfOk result (λ schema. IfSome (op_of (plan_layer self.now)).recorded (λ own. columns schema ≡ own)) }
         ensures denoted { IfOk result (λ schema. (expressions : List AExpr) (plan : Plan) →
             DenotesItem expressions arena.now self.now plan → schema_recorded plan ≡ Some (columns schema)) }
+        ensures unchecked { IfOk result (λ schema. (expressions : List AExpr) (registry : Registry) (plan : Plan) →
+            DenotesItem expressions arena.now self.now plan → KeepsOtherRules registry plan → unchecked_schema registry plan ≡ Some (columns schema)) }
         ensures rule { IfOk result (λ schema. (expressions : List AExpr) (registry : Registry) (plan : Plan) →
             DenotesItem expressions arena.now self.now plan → IsAccepted registry plan → schema_of registry plan ≡ Some (columns schema)) }
         ensures err { IfErr result (λ error. error ≡ no_memory) }
@@ -139,6 +158,8 @@ impl IR {
         ensures recorded { IfSome (op_of (plan_layer self.now)).recorded (λ own. columns result.now ≡ own) }
         ensures denoted { (expressions : List AExpr) (plan : Plan) →
             DenotesItem expressions arena.now self.now plan → schema_recorded plan ≡ Some (columns result.now) }
+        ensures unchecked { (expressions : List AExpr) (registry : Registry) (plan : Plan) →
+            DenotesItem expressions arena.now self.now plan → KeepsOtherRules registry plan → unchecked_schema registry plan ≡ Some (columns result.now) }
         ensures rule { (expressions : List AExpr) (registry : Registry) (plan : Plan) →
             DenotesItem expressions arena.now self.now plan → IsAccepted registry plan → schema_of registry plan ≡ Some (columns result.now) }
     {
@@ -208,46 +229,19 @@ fn group_by_copy(
     })
 }
 
-fn hstack_copy(
+// A column for each expression, and the schema that is recorded with them.
+fn columns_copy(
     exprs: &ExprIRs,
-    input: Node,
     schema: &Schema,
-    options: ProjectionOptions,
     alloc: Global,
-) -> Result<IR, PlanError>
-    ensures ok { IfOk result (λ copy. plan_layer copy ≡ plan_layer (IR.HStack exprs.now input schema.now options)) }
-    ensures options { IfOk result (λ copy. option_of copy ≡ option_of (IR.HStack exprs.now input schema.now options)) }
+) -> Result<(ExprIRs, Schema), PlanError>
+    ensures exprs { IfOk result (λ copies. copies.0.items.items ≡ exprs.now.items.items) }
+    ensures schema { IfOk result (λ copies. columns copies.1 ≡ columns schema.now) }
     ensures err { IfErr result (λ error. error ≡ no_memory) }
 {
     let exprs = exprs.try_clone(alloc)?;
     let schema = schema.try_clone(alloc)?;
-    Ok(IR::HStack {
-        exprs,
-        input,
-        schema,
-        options,
-    })
-}
-
-fn select_copy(
-    expr: &ExprIRs,
-    input: Node,
-    schema: &Schema,
-    options: ProjectionOptions,
-    alloc: Global,
-) -> Result<IR, PlanError>
-    ensures ok { IfOk result (λ copy. plan_layer copy ≡ plan_layer (IR.Select expr.now input schema.now options)) }
-    ensures options { IfOk result (λ copy. option_of copy ≡ option_of (IR.Select expr.now input schema.now options)) }
-    ensures err { IfErr result (λ error. error ≡ no_memory) }
-{
-    let expr = expr.try_clone(alloc)?;
-    let schema = schema.try_clone(alloc)?;
-    Ok(IR::Select {
-        expr,
-        input,
-        schema,
-        options,
-    })
+    Ok((exprs, schema))
 }
 
 fn projection_copy(input: Node, columns: &Schema, alloc: Global) -> Result<IR, PlanError>

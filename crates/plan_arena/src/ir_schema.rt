@@ -14,6 +14,7 @@ ghost use Rattle.plan_arena.specs.Layers.{inputs_of, op_of};
 ghost use Rattle.plan_arena.specs.PlanSchemas.{cached_at, scanned, schema_into, DenotesSomePlan, IsRightCache, IsSchemaAt};
 ghost use Rattle.plan_arena.specs.RecordedSchemas.{recorded_into, IsRecordedAt, KeepsRecorded};
 ghost use Rattle.plan_arena.specs.Runs.{AllAccepted};
+ghost use Rattle.plan_arena.specs.Unchecked.{unchecked_into, AllKeepOtherRules, IsUncheckedAt, KeepsUnchecked};
 ghost use Rattle.plan_arena.specs.declared.aexpr.AExpr.{AExpr};
 
 use crate::arena::{Arena, Node};
@@ -36,6 +37,8 @@ impl IR {
         requires { HasInputs arena.now self.now }
         ensures denoted { IfOk result (λ schema. (expressions : List AExpr) (op : PlanOp (Named Expression)) (inputs : Trees (PlanOp (Named Expression))) →
             DenotesItem expressions arena.now self.now (node op inputs) → option_map columns schema ≡ recorded_into op.kind inputs) }
+        ensures unchecked { IfOk result (λ schema. (expressions : List AExpr) (registry : Registry) (op : PlanOp (Named Expression)) (inputs : Trees (PlanOp (Named Expression))) →
+            DenotesItem expressions arena.now self.now (node op inputs) → AllKeepOtherRules registry inputs → option_map columns schema ≡ unchecked_into registry op.kind inputs) }
         ensures rule { IfOk result (λ schema. (expressions : List AExpr) (registry : Registry) (op : PlanOp (Named Expression)) (inputs : Trees (PlanOp (Named Expression))) →
             DenotesItem expressions arena.now self.now (node op inputs) → AllAccepted registry inputs → option_map columns schema ≡ schema_into registry op.kind inputs) }
         ensures err { IfErr result (λ error. error ≡ no_memory) }
@@ -96,6 +99,8 @@ impl IR {
         ensures stays { (n : Node) (kept : Schema) → cached_at cache.old n ≡ Some kept → cached_at cache.new n ≡ Some kept }
         ensures denoted { KeepsRecorded arena.now cache.old → IfOk result (λ schema. IsRecordedAt arena.now node.0 (columns schema)) }
         ensures recorded { KeepsRecorded arena.now cache.old → KeepsRecorded arena.now cache.new }
+        ensures unchecked { KeepsUnchecked arena.now cache.old → IfOk result (λ schema. IsUncheckedAt arena.now node.0 (columns schema)) }
+        ensures keeps_unchecked { KeepsUnchecked arena.now cache.old → KeepsUnchecked arena.now cache.new }
         ensures others { (n : Node) → n ≢ node → cached_at cache.new n ≡ cached_at cache.old n }
         ensures unchanged { OnErr result (IsUnchanged cache.old cache.new) }
         ensures right { IsRightCache arena.now cache.new }

@@ -27,16 +27,17 @@ use Rattle.plan_arena.specs.declared.ir.IR.TheVariants.{DataFrameScan}
 use Rattle.plan_arena.specs.Layers.{layer, shape_of}
 use Rattle.plan_arena.specs.RecordedSchemas.{schema_recorded}
 use Rattle.plan_arena.specs.Runs.{AllAccepted}
+use Rattle.plan_arena.specs.Samples.{named_twice}
 use Rattle.plan_arena.specs.Items.{HoldsExpression, HoldsPlan, expression_layer, plan_layer}
 use Rattle.plan_arena.proofs.DenotationLemmas.{denotes_one, some_same}
 use Rattle.plan_arena.proofs.ItemLemmas.{expression_laws, layer_inputs, plan_got, plan_laws, within}
 use Rattle.plan_coerce.specs.Optimizer.{AreRoots, DenotesLike, IsNumberRoot, IsTypedRoot}
 use Rattle.plan_coerce.specs.Reaching.{Among, AreOnce, HasNodes, HaveNodes, Near, ReachedBy}
 use Rattle.plan_coerce.specs.Rules.{IsSettledPlan, HasAcceptedInputs, HasSameWritten, IsPlanNode, IsReplacement, IsSameOnFrames, SettlesNoNumber, StandsOver, has_truth, is_settled, until_settled}
-use Rattle.plan_coerce.specs.Samples.{named_twice, wide, cast_of, strict_items, strict_sum, equal_items, filter_by, filters, scan_and, IsSumFound, IsSumPlaced}
-use Rattle.plan_coerce.specs.Unchecked.{GoesInto, HasUncheckedSchema, KeepsOtherRules, unchecked_schema}
+use Rattle.plan_coerce.specs.Samples.{wide, cast_of, strict_items, strict_sum, equal_items, filter_by, filters, scan_and, IsSumFound, IsSumPlaced}
+use Rattle.plan_arena.specs.Unchecked.{GoesInto, HasUncheckedSchema, KeepsOtherRules, unchecked_schema}
 use Rattle.plan_coerce.proofs.SettledLemmas.{settled_no_number}
-use Rattle.plan_coerce.proofs.UncheckedLemmas.{schema_recorded_is}
+use Rattle.plan_arena.proofs.UncheckedLemmas.{schema_recorded_is}
 use Rattle.plan_infer.specs.Typed.{HasKnownType}
 use Rattle.plan_infer.specs.Samples.{int32, two_columns, of_type, a, b, five, binary, sum, pair, columns_and, sum_items, a_items}
 

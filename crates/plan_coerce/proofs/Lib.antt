@@ -26,4 +26,3 @@ pub mod ToldRightLemmas
 pub mod TurnLemmas
 pub mod TypedNodeLemmas
 pub mod TypedRootLemmas
-pub mod UncheckedLemmas

@@ -26,8 +26,8 @@ use Rattle.plan_arena.proofs.ItemLemmas.{expression_laws, item_denotes, item_inp
 use Rattle.plan_infer.specs.declared.type_table.TypeTable.{TypeTable}
 use Rattle.plan_infer.specs.KeptTypes.{IsRight}
 use Rattle.plan_coerce.specs.Rules.{HasAcceptedInputs, HasUncheckedInputs, RefusesPredicate, StandsOver, has_truth, is_ok_typed, truth_of}
-use Rattle.plan_coerce.specs.Unchecked.{GoesInto, HasUncheckedSchema}
-use Rattle.plan_coerce.proofs.UncheckedLemmas.{all_accepted_schemas, schema_recorded_is, some_one}
+use Rattle.plan_arena.specs.Unchecked.{GoesInto, HasUncheckedSchema}
+use Rattle.plan_arena.proofs.UncheckedLemmas.{all_accepted_schemas, schema_recorded_is, some_one}
 
 -- a filter's node: its input, its predicate, and the schema that goes into it
 pub record IsFilter (registry : Registry) (expressions : List AExpr) (plans : List IR) (n : ℕ) (input : Node) (predicate : ExprIR) : Type 0 where

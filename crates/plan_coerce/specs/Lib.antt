@@ -9,4 +9,3 @@ pub mod RuleLaws
 pub mod Rules
 pub mod Samples
 pub mod Turns
-pub mod Unchecked

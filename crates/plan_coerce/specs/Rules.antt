@@ -30,7 +30,7 @@ use Rattle.plan_infer.specs.KeptTypes.{IsRight, KeepsEntry, typed_of}
 use Rattle.plan_coerce.specs.Coercion.{coerced}
 use Rattle.plan_coerce.specs.InlinedCasts.{stays, until_gone, written_out}
 use Rattle.plan_coerce.specs.Reaching.{IsClosed, IsReached, StaysOnce}
-use Rattle.plan_coerce.specs.Unchecked.{GoesInto, HasUncheckedSchema}
+use Rattle.plan_arena.specs.Unchecked.{GoesInto, HasUncheckedSchema}
 
 -- ---- nodes of expressions
 

@@ -16,7 +16,7 @@ use Rattle.plan_arena.specs.declared.aexpr.AExpr.TheVariants.{Cast}
 use Rattle.plan_arena.specs.declared.ir.IR.{IR}
 use Rattle.plan_arena.specs.declared.ir.IR.TheVariants.{DataFrameScan, Filter}
 use Rattle.plan_arena.specs.declared.expr_ir.OutputName.TheVariants.{ColumnLhs}
-use Rattle.plan_infer.specs.Samples.{int8, int32, two_columns, a, b, binary, cast_to, at, pair, columns_and}
+use Rattle.plan_infer.specs.Samples.{int32, two_columns, a, b, binary, cast_to, at, pair, columns_and}
 use Rattle.plan_coerce.specs.InlinedCasts.{literal_cast}
 use Rattle.plan_coerce.specs.Rules.{HasSameWritten, is_settled, until_settled}
 use Rattle.plan_coerce.specs.Turns.{IsFound, IsPlaced, IsStopped, IsTurn}
@@ -55,10 +55,6 @@ equal_items = columns_and (pair 0 Eq 1 ∷ [])
 -- a property of each schema of these columns
 abbrev pub ForSchema : Columns → (Schema → Type 0) → Type 0
 ForSchema own Has = (schema : Schema) → columns schema ≡ own → Has schema
-
--- two columns of one name
-abbrev pub named_twice : Columns
-named_twice = (codes "a", int8) ∷ (codes "a", int32) ∷ []
 
 -- a plan's filter over a node, by a node of the other arena, and a scan with other nodes behind it
 abbrev pub filter_by : ℕ → ℕ → IR

@@ -15,7 +15,8 @@ use Rattle.plan_arena.specs.Runs.{IsAccepted, AllAccepted}
 use Rattle.plan_arena.specs.declared.aexpr.AExpr.{AExpr}
 use Rattle.plan_arena.specs.declared.ir.IR.{IR}
 use Rattle.plan_arena.proofs.DenotationLemmas.{some_same, inputs_denote, denotes_one}
-use Rattle.plan_arena.proofs.ItemLemmas.{layer_op, layer_inputs, expression_laws, plan_laws, plan_got, expression_got, item_denotes, filter_item}
+use Rattle.plan_arena.proofs.ItemLemmas.{layer_op, layer_inputs, expression_laws, plan_laws, plan_got, expression_got, item_denotes}
+use Rattle.plan_arena.proofs.UncheckedLemmas.{filter_item}
 use Rattle.plan_report.specs.Casts.{DenoteOutputs}
 use Rattle.plan_report.specs.Report.{line_text, shown, node_line, plan_lines, casts_line, report_text}
 use Rattle.plan_dsl.specs.Counts.{cast_count}

@@ -7,10 +7,9 @@ ghost use Rattle.plan_types.specs.declared.dtype.DataType.TheVariants as dtype;
 ghost use Rattle.plan_types.specs.declared.dtype.UnknownKind.TheVariants.{Int as Number};
 ghost use Rattle.plan_types.specs.declared.schema.Schema.{Schema};
 ghost use Rattle.plan_types.specs.declared.error.ErrorKind.TheVariants.{ColumnNotFound, InvalidOperation};
-ghost use Rattle.plan_dsl.specs.PlanRules.{schema_of};
-ghost use Rattle.plan_dsl.specs.Plans.{named, filter_op, scan_op, select_op, FilterKind, ScanKind, SelectKind};
+ghost use Rattle.plan_dsl.specs.Plans.{named, filter_op, scan_op, FilterKind, ScanKind, SelectKind};
 ghost use Rattle.plan_dsl.specs.Registry.{Registry};
-ghost use Rattle.plan_dsl.specs.Samples.{keep, scan_of, way};
+ghost use Rattle.plan_dsl.specs.Samples.{scan_of, way};
 ghost use Rattle.plan_dsl.specs.Strictness.{is_strict};
 ghost use Rattle.plan_dsl.specs.Trees.{node, no_more, more};
 ghost use Rattle.plan_dsl.specs.declared.literal.LiteralValue.TheVariants.{Int, Int8, Int32};
@@ -27,8 +26,8 @@ ghost use Rattle.plan_coerce.specs.Coercion.{AllReady, AllStrictFrom, AreChanged
 ghost use Rattle.plan_coerce.specs.Optimizer.{AreApart, AreRoots, AreSettled, AreTrees, AreTypedRoots, DenotesSettled, EndsSettled, EndsTyped, HasTyping, IsCoercionRefusal, IsNumberRoot, IsPlanTurn, IsSettled, IsTypedRoot, LeadsToNoNumber, ReachesNear, StaysApart, StaysFinite, StaysLikeBeside, StaysLikeTyped, StaysOver, TypesNumber, all_with_inputs, with_inputs};
 ghost use Rattle.plan_coerce.specs.Reaching.{AreMadeOnce, HasNewNodes, IsClosed, IsMadeOnce, IsPutOnce, StaysOnce};
 ghost use Rattle.plan_coerce.specs.Rules.{IsSettledPlan, HasAcceptedInputs, HasSameWritten, HasUncheckedInputs, IsCongruent, IsLike, IsPlanNode, IsPlanReplacement, IsReplacement, IsSteady, KeepsNumber, RefusesPredicate, StandsOver, has_truth, is_settled, until_settled};
-ghost use Rattle.plan_coerce.specs.Unchecked.{KeepsOtherRules, unchecked_kinds, unchecked_schema};
-ghost use Rattle.plan_coerce.specs.Samples.{named_twice, cast_of, strict_items, strict_sum, equal_items, filter_by, scan_and, filters, ForSchema, IsSumFound, IsSumPlaced, IsSumStopped, IsSumTurn};
+ghost use Rattle.plan_arena.specs.Samples.{named_twice};
+ghost use Rattle.plan_coerce.specs.Samples.{cast_of, strict_items, strict_sum, equal_items, filter_by, scan_and, filters, ForSchema, IsSumFound, IsSumPlaced, IsSumStopped, IsSumTurn};
 
 /// A node stands before its inputs, the last of them first; of a window the last is what its rows are ordered by. A number
 /// that is no node's has none. A list may begin with another.
@@ -200,23 +199,6 @@ pub fn entries_of_strict_nodes()
     ensures keeps_number { ForEntry 2 (dtype.Unknown (Number (pos 5))) false [] (λ own. ForTable 2 (Some own ∷ []) (λ table. KeepsNumber table 2)) }
     ensures type_of_columns { ForEntry 2 dtype.Int32 true [] (λ own. ForTable 2 (Some own ∷ []) (λ table. ¬ (KeepsNumber table 2))) }
     ensures no_number_kept { ForTable 2 (None ∷ []) (λ table. ¬ (KeepsNumber table 2)) }
-{}
-
-/// A filter whose predicate is no truth value counts as giving its input's schema. Every other rule is kept, and a schema
-/// that is recorded is the one that the node has.
-pub fn plans_with_unchecked_predicates()
-    ensures number { unchecked_schema [] (keep a (scan_of 0 two_columns)) ≡ Some two_columns }
-    ensures checked { schema_of [] (keep a (scan_of 0 two_columns)) ≡ None }
-    ensures above { unchecked_schema [] (keep (binary Eq a b) (keep a (scan_of 0 two_columns))) ≡ Some two_columns }
-    ensures no_such_column { unchecked_schema [] (keep a (scan_of 0 [])) ≡ None }
-    ensures named_twice { unchecked_schema [] (keep a (scan_of 0 named_twice)) ≡ None }
-    ensures kinds { unchecked_kinds [] (filter_op (named a)) (Some two_columns ∷ []) ≡ [] }
-    ensures other_kinds { unchecked_kinds [] (filter_op (named a)) (Some [] ∷ []) ≡ ColumnNotFound ∷ [] }
-    ensures keeps { KeepsOtherRules [] (keep (binary Eq a b) (keep a (scan_of 0 two_columns))) }
-    ensures breaks_another { ¬ (KeepsOtherRules [] (keep a (scan_of 0 []))) }
-    ensures below { ¬ (KeepsOtherRules [] (keep a (scan_of 0 named_twice))) }
-    ensures recorded { KeepsOtherRules [] (node (select_op (named a ∷ []) (Some ((codes "a", int8) ∷ []))) (more (keep a (scan_of 0 two_columns)) no_more)) }
-    ensures other_record { ¬ (KeepsOtherRules [] (node (select_op (named a ∷ []) (Some two_columns)) (more (keep a (scan_of 0 two_columns)) no_more))) }
 {}
 
 /// A plan's node stands over the schema of its input, which keeps every rule, that on a predicate's type aside. Nothing is

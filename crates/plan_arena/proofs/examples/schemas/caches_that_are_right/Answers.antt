@@ -1,21 +1,20 @@
-use Rattle.std.proofs.Common.{◌∷◌, [], Some, refl, ap, ◌∙◌, sym}
+use Rattle.std.proofs.Common.{◌∷◌, [], Some, refl, ap}
 use Rattle.std.specs.BTreeMap.{is_at}
 use Rattle.std.specs.Map.{lookup}
 use Rattle.plan_types.specs.Schemas.{columns}
 use Rattle.plan_arena.specs.contracts.arena.NodeOrd.TheImpl as node_order
 use Rattle.plan_arena.specs.declared.ir.IR.TheVariants.{DataFrameScan}
+use Rattle.plan_arena.specs.PlanSchemas.{IsSchemaAt}
 use Rattle.plan_arena.specs.Samples.{node_at}
-use Rattle.plan_arena.proofs.PlanSchemaLemmas.{none_some, other_schema, right_alone, scan_schema}
+use Rattle.plan_arena.proofs.PlanSchemaLemmas.{keeps_alone, keeps_none, other_schema, scan_schema}
 use Rattle.plan_arena.proofs.examples.schemas.caches_that_are_right.Goals as goal
 
 pub returns-clause-empty : goal.returns-clause-empty
-returns-clause-empty c = λ plans cache entries. record {
-  each = λ n schema there. absurd (none_some schema (sym (ap (lookup (is_at ((node_order.ghosts).cmp n))) entries) ∙ there));
-}
+returns-clause-empty c = λ plans cache entries. keeps_none (IsSchemaAt plans) cache entries
 
 pub returns-clause-of_a_scan : goal.returns-clause-of_a_scan
 returns-clause-of_a_scan c = λ schema cache entries.
-    right_alone (DataFrameScan (Some 0) schema ∷ []) cache (node_at 0) schema entries (scan_schema (DataFrameScan (Some 0) schema ∷ []) 0 (Some 0) schema refl)
+    keeps_alone (IsSchemaAt (DataFrameScan (Some 0) schema ∷ [])) cache (node_at 0) schema entries (scan_schema (DataFrameScan (Some 0) schema ∷ []) 0 (Some 0) schema refl)
 
 pub returns-clause-of_another : goal.returns-clause-of_another
 returns-clause-of_another c = λ schema other cache differs entries right.

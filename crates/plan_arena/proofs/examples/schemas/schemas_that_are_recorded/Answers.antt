@@ -1,10 +1,8 @@
-use Rattle.std.proofs.Common.{◌∷◌, [], Some, refl, sym, ap, ◌∙◌}
-use Rattle.std.specs.BTreeMap.{is_at}
-use Rattle.std.specs.Map.{lookup}
+use Rattle.std.proofs.Common.{◌∷◌, [], Some, refl}
 use Rattle.plan_types.specs.Schemas.{columns}
-use Rattle.plan_arena.specs.contracts.arena.NodeOrd.TheImpl as node_order
 use Rattle.plan_arena.specs.declared.ir.IR.TheVariants.{DataFrameScan}
-use Rattle.plan_arena.proofs.PlanSchemaLemmas.{none_some}
+use Rattle.plan_arena.specs.RecordedSchemas.{IsRecordedAt}
+use Rattle.plan_arena.proofs.PlanSchemaLemmas.{keeps_none}
 use Rattle.plan_arena.proofs.RecordedSchemaLemmas.{item_records, recorded_at_node}
 use Rattle.plan_arena.proofs.examples.schemas.schemas_that_are_recorded.Goals as goal
 
@@ -14,6 +12,4 @@ returns-clause-scan c = λ schema.
     recorded_at_node plans 0 (DataFrameScan (Some 0) schema) (columns schema) refl (item_records plans (DataFrameScan (Some 0) schema) (columns schema) refl)
 
 pub returns-clause-empty : goal.returns-clause-empty
-returns-clause-empty c = λ plans cache entries. record {
-  each = λ n schema there. absurd (none_some schema (sym (ap (lookup (is_at ((node_order.ghosts).cmp n))) entries) ∙ there));
-}
+returns-clause-empty c = λ plans cache entries. keeps_none (IsRecordedAt plans) cache entries

@@ -14,12 +14,14 @@ use Rattle.plan_arena.specs.declared.ir.IR.{IR}
 use Rattle.plan_arena.specs.declared.ir.IR.TheVariants.{DataFrameScan, Filter, GroupBy, HStack, Select, SimpleProjection, Invalid}
 use Rattle.plan_arena.specs.Denotation.{Denotes, DenoteAll}
 use Rattle.plan_arena.specs.Layers.{Layer, layer, op_of}
-use Rattle.plan_arena.specs.Items.{DenotesKind, DenotesOp, HoldsPlan, named_node, plan_layer}
-use Rattle.plan_arena.specs.RecordedSchemas.{recorded_over, schema_recorded}
+use Rattle.plan_arena.specs.Items.{DenotesItem, DenotesKind, DenotesOp, HoldsPlan, named_node, plan_layer}
+use Rattle.plan_arena.specs.PlanSchemas.{schema_into}
+use Rattle.plan_arena.specs.RecordedSchemas.{recorded_into, recorded_over, schema_recorded}
 use Rattle.plan_arena.specs.Runs.{AllAccepted, HasRecorded, IsAccepted, own_schema}
+use Rattle.plan_arena.specs.Unchecked.{AllKeepOtherRules, HasUncheckedSchema, KeepsOtherRules, unchecked_into, unchecked_kinds, unchecked_own_kinds, unchecked_rule, unchecked_schema}
 use Rattle.plan_arena.proofs.DenotationLemmas.{some_same}
 use Rattle.plan_arena.proofs.ItemLemmas.{is_valid, layer_inputs, layer_op}
-use Rattle.plan_coerce.specs.Unchecked.{AllKeepOtherRules, HasUncheckedSchema, KeepsOtherRules, unchecked_kinds, unchecked_own_kinds, unchecked_rule, unchecked_schema}
+use Rattle.plan_arena.proofs.RecordedSchemaLemmas.{RecordsSchema}
 
 -- ---- one schema is recorded
 
@@ -94,19 +96,39 @@ module _ (expressions : List AExpr) where
   item_of (Some item) l e = let is : plan_layer item ≡ l = cc in (item, is)
 
   module _ (plans : List IR) (registry : Registry) where
+    filtered : (op : PlanOp (Named Expression)) (predicate : Named Expression) → op.kind ≡ FilterKind predicate → (m : ℕ) (ts : Trees (PlanOp (Named Expression))) → DenoteAll (HoldsPlan expressions plans) (m ∷ []) ts → IsTrue (is_some (unchecked_schema registry (node op ts))) → input_schema (fold_all (unchecked_rule registry) ts) 0 ≡ unchecked_schema registry (node op ts)
+    filtered op predicate kind m (more t no_more) d there = sym (filter_keeps registry op predicate kind (unchecked_schema registry t) there)
+    filtered op predicate kind m no_more d there = absurd d
+    filtered op predicate kind m (more t (more u us)) d there = absurd d.1
+
+    -- an item, where its first input has the schema that is recorded of it
+    by_first : (item : IR) (op : PlanOp (Named Expression)) (ts : Trees (PlanOp (Named Expression))) → DenotesItem expressions plans item (node op ts) → HasRecorded op.recorded (unchecked_schema registry (node op ts)) → input_schema (fold_all recorded_over ts) 0 ≡ input_schema (fold_all (unchecked_rule registry) ts) 0 → schema_recorded (node op ts) ≡ unchecked_schema registry (node op ts)
+    by_first item op ts d has first =
+        by_recorded op.recorded (unchecked_schema registry (node op ts)) (input_schema (fold_all recorded_over ts) 0) has (λ none.
+        let f = is_filter item d.1.flat d.0 op d.1.is d.1.denotes none in
+        first ∙ filtered op f.0 f.2 f.1 ts (subst (λ ns. DenoteAll (HoldsPlan expressions plans) ns ts) f.3 d.2) (has_some op.recorded _ has))
+
     mutual
       -- a plan that keeps the other rules has the schema that is recorded of it
       pub recorded_is : (n : ℕ) (t : Plan) → Denotes (HoldsPlan expressions plans) n t → KeepsOtherRules registry t → schema_recorded t ≡ unchecked_schema registry t
       recorded_is n (node op ts) d keeps =
-          by_recorded op.recorded (unchecked_schema registry (node op ts)) (input_schema (fold_all recorded_over ts) 0) keeps.0 (λ none.
           let item = item_of (slice_get plans n) (layer d.1.flat d.0) (sym (slice_get-map plan_layer plans n) ∙ d.1.item) in
-          let f = is_filter item.0 d.1.flat d.0 op item.1 d.1.denotes none in
-          filtered op f.0 f.2 f.1 ts (subst (λ ns. DenoteAll (HoldsPlan expressions plans) ns ts) f.3 d.2) keeps.1 (has_some op.recorded _ keeps.0))
+          by_first item.0 op ts (d.0, record { flat = d.1.flat; is = item.1; denotes = d.1.denotes }, d.2) keeps.0 (first_is d.0 ts d.2 keeps.1)
 
-      filtered : (op : PlanOp (Named Expression)) (predicate : Named Expression) → op.kind ≡ FilterKind predicate → (m : ℕ) (ts : Trees (PlanOp (Named Expression))) → DenoteAll (HoldsPlan expressions plans) (m ∷ []) ts → AllKeepOtherRules registry ts → IsTrue (is_some (unchecked_schema registry (node op ts))) → input_schema (fold_all recorded_over ts) 0 ≡ unchecked_schema registry (node op ts)
-      filtered op predicate kind m (more t no_more) d keeps there = recorded_is m t d.0 keeps.0 ∙ sym (filter_keeps registry op predicate kind (unchecked_schema registry t) there)
-      filtered op predicate kind m no_more d keeps there = absurd d
-      filtered op predicate kind m (more t (more u us)) d keeps there = absurd d.1
+      first_is : (ns : List ℕ) (ts : Trees (PlanOp (Named Expression))) → DenoteAll (HoldsPlan expressions plans) ns ts → AllKeepOtherRules registry ts → input_schema (fold_all recorded_over ts) 0 ≡ input_schema (fold_all (unchecked_rule registry) ts) 0
+      first_is ns no_more d keeps = refl
+      first_is (n ∷ ns) (more t ts) d keeps = recorded_is n t d.0 keeps.0
+      first_is [] (more t ts) d keeps = absurd d
+
+    -- and so has what goes into a node over such plans
+    pub into_is : (kind : PlanKind (Named Expression)) (ns : List ℕ) (ts : Trees (PlanOp (Named Expression))) → DenoteAll (HoldsPlan expressions plans) ns ts → AllKeepOtherRules registry ts → recorded_into kind ts ≡ unchecked_into registry kind ts
+    into_is kind ns no_more d keeps = refl
+    into_is kind ns (more t ts) d keeps = first_is ns (more t ts) d keeps
+
+-- and the plan of an item
+pub records_unchecked : (plans : List IR) (item : IR) (schema : Columns) → RecordsSchema plans item schema → (expressions : List AExpr) (registry : Registry) (t : Plan) → DenotesItem expressions plans item t → KeepsOtherRules registry t → unchecked_schema registry t ≡ Some schema
+records_unchecked plans item schema records expressions registry (node op ts) d keeps =
+    sym (by_first expressions plans registry item op ts d keeps.0 (first_is expressions plans registry d.0 ts d.2 keeps.1)) ∙ records expressions (node op ts) d
 
 -- ---- a node has one schema so
 
@@ -157,6 +179,35 @@ module _ (registry : Registry) where
         let first = accepted_keeps t accepted.0 in
         let rest = all_accepted_keep ts accepted.1 in
         ((first.0, rest.0), ap (λ s. s ∷ fold_all (unchecked_rule registry) ts) first.1 ∙ ap (λ ss. schema_of registry t ∷ ss) rest.1)
+
+  -- so its schema is recorded of its item
+  pub records_accepted : (plans : List IR) (item : IR) (schema : Columns) → RecordsSchema plans item schema → (expressions : List AExpr) (t : Plan) → DenotesItem expressions plans item t → IsAccepted registry t → schema_of registry t ≡ Some schema
+  records_accepted plans item schema records expressions t d accepted =
+      let keeps = accepted_keeps t accepted in
+      sym keeps.1 ∙ records_unchecked plans item schema records expressions registry t d keeps.0
+
+  -- and what goes into a node of its first input
+  pub into_accepted : (expressions : List AExpr) (plans : List IR) (kind : PlanKind (Named Expression)) (ns : List ℕ) (ts : Trees (PlanOp (Named Expression))) → DenoteAll (HoldsPlan expressions plans) ns ts → AllAccepted registry ts → recorded_into kind ts ≡ schema_into registry kind ts
+  into_accepted expressions plans kind ns no_more d accepted = refl
+  into_accepted expressions plans kind ns (more t ts) d accepted =
+      into_is expressions plans registry kind ns (more t ts) d (all_accepted_keep (more t ts) accepted).0 ∙ (accepted_keeps t accepted.0).1
+
+  -- a filter's item, whose input is known
+  module _ (expressions : List AExpr) (plans : List IR) (item : IR) (predicate : Named ℕ) (n : ℕ) (is : plan_layer item ≡ layer (filter_op predicate) (n ∷ [])) where
+    filter_children : (op : PlanOp (Named Expression)) (e : Named Expression) → op.kind ≡ FilterKind e → (ts : Trees (PlanOp (Named Expression))) → DenoteAll (HoldsPlan expressions plans) (n ∷ []) ts → IsAccepted registry (node op ts) → (t : Plan) × Denotes (HoldsPlan expressions plans) n t × IsAccepted registry t × (schema_of registry (node op ts) ≡ schema_of registry t)
+    filter_children op e kind (more t no_more) d accepted =
+        let keeps = accepted_keeps (node op (more t no_more)) accepted in
+        let below = accepted_keeps t accepted.1.0 in
+        (t, d.0, accepted.1.0, sym keeps.1 ∙ filter_keeps registry op e kind (unchecked_schema registry t) (has_some op.recorded _ keeps.0.0) ∙ below.1)
+    filter_children op e kind no_more d accepted = absurd d
+    filter_children op e kind (more t (more u ts)) d accepted = absurd d.1
+
+    -- an accepted one has the schema of its input
+    pub filter_item : (t : Plan) → DenotesItem expressions plans item t → IsAccepted registry t → (u : Plan) × Denotes (HoldsPlan expressions plans) n u × IsAccepted registry u × (schema_of registry t ≡ schema_of registry u)
+    filter_item (node op ts) d accepted =
+        let same = sym d.1.is ∙ is in
+        let kind = subst (λ (f : PlanOp (Named ℕ)). DenotesKind expressions f.kind op.kind) (layer_op d.1.flat (filter_op predicate) d.0 (n ∷ []) same) d.1.denotes.kind in
+        filter_children op kind.0 kind.1 ts (subst (λ ns. DenoteAll (HoldsPlan expressions plans) ns ts) (layer_inputs d.1.flat (filter_op predicate) d.0 (n ∷ []) same) d.2) accepted
 
   -- an accepted plan's node has its schema so
   pub accepted_schema : (expressions : List AExpr) (plans : List IR) (n : ℕ) (t : Plan) (schema : Columns) → Denotes (HoldsPlan expressions plans) n t → IsAccepted registry t → schema_of registry t ≡ Some schema → HasUncheckedSchema registry plans n schema

@@ -1,7 +1,9 @@
 -- Plans whose predicates' types aren't checked.
 -- A filter over an input that has a schema counts as giving it, whatever the type of its predicate. Every other rule is kept.
 use Rattle.std.specs.Prelude.{◌≡◌, ℕ, List, [], ◌∷◌, ◌++◌, Option, Some}
+use Rattle.std.specs.BTreeMap.{BTreeMap}
 use Rattle.plan_types.specs.Schemas.{Columns}
+use Rattle.plan_types.specs.declared.schema.Schema.{Schema}
 use Rattle.plan_types.specs.declared.error.ErrorKind.{ErrorKind}
 use Rattle.plan_dsl.specs.Registry.{Registry}
 use Rattle.plan_dsl.specs.Ops.{Expression}
@@ -9,10 +11,11 @@ use Rattle.plan_dsl.specs.Trees.{Trees, node, no_more, more, fold}
 use Rattle.plan_dsl.specs.Plans.{Named, PlanKind, FilterKind, PlanOp, Plan, expressions_of}
 use Rattle.plan_dsl.specs.PlanRules.{expression_kinds, own_kinds, schema_by, where_unbroken}
 use Rattle.plan_arena.specs.declared.aexpr.AExpr.{AExpr}
+use Rattle.plan_arena.specs.declared.arena.Node.{Node}
 use Rattle.plan_arena.specs.declared.ir.IR.{IR}
 use Rattle.plan_arena.specs.Denotation.{Denotes}
 use Rattle.plan_arena.specs.Items.{HoldsPlan}
-use Rattle.plan_arena.specs.PlanSchemas.{scanned}
+use Rattle.plan_arena.specs.PlanSchemas.{into_by, scanned, KeepsEach}
 use Rattle.plan_arena.specs.Runs.{HasRecorded}
 
 -- the kinds that a node breaks besides those of its expressions, that of a predicate's type aside
@@ -39,6 +42,18 @@ abbrev mutual
   pub AllKeepOtherRules : Registry → Trees (PlanOp (Named Expression)) → Type 0
   AllKeepOtherRules registry no_more = Unit {0}
   AllKeepOtherRules registry (more plan rest) = KeepsOtherRules registry plan × AllKeepOtherRules registry rest
+
+-- the schema that goes into a node over such plans
+abbrev pub unchecked_into : Registry → PlanKind (Named Expression) → Trees (PlanOp (Named Expression)) → Option Columns
+unchecked_into registry = into_by (unchecked_schema registry)
+
+-- the schema is that of whatever such plan the node denotes, with any arena of expressions
+abbrev pub IsUncheckedAt : List IR → ℕ → Columns → Type 0
+IsUncheckedAt plans n schema = (expressions : List AExpr) (registry : Registry) (plan : Plan) → Denotes (HoldsPlan expressions plans) n plan → KeepsOtherRules registry plan → unchecked_schema registry plan ≡ Some schema
+
+-- so is each schema that a cache keeps
+abbrev pub KeepsUnchecked : List IR → BTreeMap Node Schema → Type 0
+KeepsUnchecked plans = KeepsEach (IsUncheckedAt plans)
 
 -- with some arena of expressions the node denotes such a plan, of that schema
 pub record HasUncheckedSchema (registry : Registry) (plans : List IR) (n : ℕ) (schema : Columns) : Type 0 where
