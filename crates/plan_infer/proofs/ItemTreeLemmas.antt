@@ -1,5 +1,5 @@
 -- The typing and the name of an item that is handed over by itself, from what is kept of its inputs.
-use Rattle.std.proofs.Common.{◌≡◌, ℕ, ◌<◌, ◌&&◌, Bool, List, [], ◌∷◌, length, map, take, get_or, Ok, Some, slice_get, codes, refl, sym, ap, ◌∙◌, subst}
+use Rattle.std.proofs.Common.{◌≡◌, ℕ, ◌<◌, ◌&&◌, Bool, List, [], length, take, get_or, Ok, Some, slice_get, codes, sym, ap, ◌∙◌, subst}
 use Rattle.std.specs.List.{AllByRecursion}
 use Rattle.plan_types.specs.Errors.{IsRefusal}
 use Rattle.plan_types.specs.Schemas.{Columns}
@@ -7,7 +7,7 @@ use Rattle.plan_types.specs.declared.error.PlanError.{PlanError}
 use Rattle.plan_dsl.specs.Names.{Label, first_label, label_of, literal_label, op_label}
 use Rattle.plan_dsl.specs.Ops.{Op, Expression}
 use Rattle.plan_dsl.specs.Registry.{Registry}
-use Rattle.plan_dsl.specs.Trees.{Trees, node, no_more, more, fold_all}
+use Rattle.plan_dsl.specs.Trees.{node, no_more, more}
 use Rattle.plan_dsl.specs.Typing.{Typed, own_typed, then_typed, typing, typing_rule}
 use Rattle.plan_dsl.proofs.TypingLemmas.{ok_same}
 use Rattle.plan_arena.specs.declared.aexpr.AExpr.{AExpr}
@@ -15,8 +15,8 @@ use Rattle.plan_arena.specs.declared.arena.Node.{Node}
 use Rattle.plan_arena.specs.Denotation.{Denotes, DenoteAll, DenotesTree}
 use Rattle.plan_arena.specs.Layers.{Layer, layer, op_of, inputs_of}
 use Rattle.plan_arena.specs.Items.{HoldsExpression, expression_layer, numbers}
-use Rattle.plan_arena.proofs.DenotationLemmas.{some_same}
-use Rattle.plan_arena.proofs.ItemLemmas.{expression_got}
+use Rattle.plan_arena.proofs.DenotationLemmas.{all_denote}
+use Rattle.plan_arena.proofs.LabelLemmas.{inputs_held, labelled_as_literal, labelled_by_first, op_held}
 use Rattle.plan_infer.specs.declared.type_table.Inferred.{Inferred}
 use Rattle.plan_infer.specs.declared.type_table.TypeTable.{TypeTable}
 use Rattle.plan_infer.specs.ItemTrees.{HasOperands, LayerDenotes}
@@ -55,42 +55,14 @@ module _ (registry : Registry) (schema : Columns) (items : List AExpr) (table : 
       let below = child_refused registry schema items table right error ns i n all lt refused ts (subst (λ ms. DenoteAll (HoldsExpression items) ms ts) (sym listed) d.1) in
       refused_so _ _ error (λ kind e. ap (λ r. then_typed r (typing_rule registry schema op)) e) below
 
-first_there : (inputs : List ℕ) (first : ℕ) → slice_get inputs 0 ≡ Some first → (rest : List ℕ) × (inputs ≡ first ∷ rest)
-first_there [] first there = cc
-first_there (n ∷ ns) first there = let same : n ≡ first = cc in (ns, ap (λ k. k ∷ ns) same)
-
--- all have a fact, and so the first
-pub first_has : (P : ℕ → Type 0) (ns : List ℕ) (first : ℕ) → AllByRecursion P ns → slice_get ns 0 ≡ Some first → P first
-first_has P [] first all there = cc
-first_has P (n ∷ ns) first all there = let same : n ≡ first = cc in subst P same all.0
-
+-- an item's expression that is named as its first input, or without one as a literal
 module _ (items : List AExpr) (item : Layer Op) where
-  -- an item with a name of its own
-  pub own_label : (label : Label) → ((labels : List Label) → op_label (op_of item) labels ≡ label) → (t : Expression) → LayerDenotes items item t → label ≡ label_of t
-  own_label label own (node op ts) d = sym (own (fold_all op_label ts)) ∙ ap (λ o. op_label o (fold_all op_label ts)) d.0
-
-  -- and one with that of its first input
   module _ (inner : (labels : List Label) → op_label (op_of item) labels ≡ first_label labels) where
-    by_first : (op : Op) (ts : Trees Op) → op_of item ≡ op → label_of (node op ts) ≡ first_label (fold_all op_label ts)
-    by_first op ts is = ap (λ o. op_label o (fold_all op_label ts)) (sym is) ∙ inner (fold_all op_label ts)
-
-    first_child : (first : ℕ) (rest : List ℕ) (ts : Trees Op) (label : Label) → DenoteAll (HoldsExpression items) (first ∷ rest) ts → ((t : Expression) → Denotes (HoldsExpression items) first t → label ≡ label_of t) → label ≡ first_label (fold_all op_label ts)
-    first_child first rest (more t ts) label d named = named t d.0
-    first_child first rest no_more label d named = absurd d
-
-    no_child : (ts : Trees Op) → DenoteAll (HoldsExpression items) [] ts → first_label (fold_all op_label ts) ≡ literal_label (codes "literal")
-    no_child no_more d = refl
-    no_child (more t ts) d = absurd d
-
     pub named_by_first : (first : ℕ) → slice_get (inputs_of item) 0 ≡ Some first → (label : Label) → ((t : Expression) → Denotes (HoldsExpression items) first t → label ≡ label_of t) → (t : Expression) → LayerDenotes items item t → label ≡ label_of t
-    named_by_first first there label named (node op ts) d =
-        let split = first_there (inputs_of item) first there in
-        first_child first split.0 ts label (subst (λ ns. DenoteAll (HoldsExpression items) ns ts) split.1 d.1) named ∙ sym (by_first op ts d.0)
+    named_by_first first there label named (node op ts) d = labelled_by_first items item inner op ts d.0 d.1 first there label named
 
-    -- one without inputs is named as a literal
     pub named_without_inputs : inputs_of item ≡ [] → (label : Label) → label ≡ literal_label (codes "literal") → (t : Expression) → LayerDenotes items item t → label ≡ label_of t
-    named_without_inputs none label is (node op ts) d =
-        is ∙ sym (no_child ts (subst (λ ns. DenoteAll (HoldsExpression items) ns ts) none d.1)) ∙ sym (by_first op ts d.0)
+    named_without_inputs none label is (node op ts) d = labelled_as_literal items item inner op ts d.0 d.1 none label is
 
 -- an item without inputs is the top of one expression
 pub leaf_item : (items : List AExpr) (op : Op) (t : Expression) → LayerDenotes items (layer op []) t → t ≡ node op no_more
@@ -99,24 +71,11 @@ leaf_item items op (node o (more t ts)) d = absurd d.1
 
 -- what a node denotes, its item denotes, and its inputs denote trees
 module _ (items : List AExpr) (n : ℕ) (item : AExpr) (got : slice_get items n ≡ Some item) where
-  same_layer : (op : Op) (inputs : List ℕ) → HoldsExpression items n op inputs → expression_layer item ≡ layer op inputs
-  same_layer op inputs held = some_same (slice_get (map expression_layer items) n) _ _ (expression_got items n item got) held
-
   pub denoted_layer : (t : Expression) → Denotes (HoldsExpression items) n t → LayerDenotes items (expression_layer item) t
-  denoted_layer (node op ts) d =
-      let same = same_layer op d.0 d.1 in
-      (ap op_of same, subst (λ ns. DenoteAll (HoldsExpression items) ns ts) (sym (ap inputs_of same)) d.2)
-
-  all_denoted : (ns : List ℕ) (ts : Trees Op) → DenoteAll (HoldsExpression items) ns ts → AllByRecursion (DenotesTree (HoldsExpression items)) ns
-  all_denoted [] no_more d = tt
-  all_denoted (m ∷ ms) (more t ts) d = (record { tree = t; denotes = d.0 }, all_denoted ms ts d.1)
-  all_denoted [] (more t ts) d = absurd d
-  all_denoted (m ∷ ms) no_more d = absurd d
+  denoted_layer (node op ts) d = (op_held items n item got op d.0 d.1, inputs_held items n item got op d.0 d.1 ts d.2)
 
   operands_of_tree : (t : Expression) → Denotes (HoldsExpression items) n t → HasOperands items (expression_layer item)
-  operands_of_tree (node op ts) d =
-      let same = same_layer op d.0 d.1 in
-      subst (AllByRecursion (DenotesTree (HoldsExpression items))) (sym (ap inputs_of same)) (all_denoted d.0 ts d.2)
+  operands_of_tree (node op ts) d = all_denote (HoldsExpression items) (inputs_of (expression_layer item)) ts (inputs_held items n item got op d.0 d.1 ts d.2)
 
   pub denoted_operands : DenotesTree (HoldsExpression items) n → HasOperands items (expression_layer item)
   denoted_operands d = operands_of_tree d.tree d.denotes

@@ -21,11 +21,11 @@ use Rattle.plan_dsl.proofs.TypingLemmas.{ok_same}
 use Rattle.plan_arena.specs.declared.arena.Node.{Node}
 use Rattle.plan_arena.specs.declared.aexpr.AExpr.{AExpr}
 use Rattle.plan_arena.specs.Denotation.{Denotes, DenotesTree, DenoteAll}
-use Rattle.plan_arena.specs.Layers.{Layer, layer, op_of, inputs_of}
+use Rattle.plan_arena.specs.Layers.{op_of, inputs_of}
 use Rattle.plan_arena.specs.Items.{HoldsExpression, Grows, expression_layer, numbers}
 use Rattle.plan_arena.proofs.DenotationLemmas.{some_same, denotes_one, kept, same_or_other}
 use Rattle.plan_arena.proofs.LabelLemmas.{labels_over}
-use Rattle.plan_arena.proofs.ItemLemmas.{layer_op, layer_inputs, held_top, expression_laws, any_node, from_zero, grown_held, expression_got}
+use Rattle.plan_arena.proofs.ItemLemmas.{layer_op, layer_inputs, held_top, expression_laws, any_node, from_zero, grown_held, expression_got, layer_parts}
 use Rattle.plan_arena.proofs.NumberLemmas.{all_joined, all_weaker, taken_more}
 use Rattle.plan_infer.specs.declared.type_table.Inferred.{Inferred}
 use Rattle.plan_infer.specs.declared.type_table.TypeTable.{TypeTable}
@@ -238,9 +238,6 @@ module _ (old mid new : TypeTable) (at : ℕ) (own : Inferred) (none : ¬ (IsKep
       (same_or_other n at)
 
 -- an item holds its own layer
-layer_parts : (l : Layer Op) → l ≡ layer (op_of l) (inputs_of l)
-layer_parts (layer op inputs) = refl
-
 pub layer_held : (items : List AExpr) (n : ℕ) (item : AExpr) → slice_get items n ≡ Some item → HoldsExpression items n (op_of (expression_layer item)) (inputs_of (expression_layer item))
 layer_held items n item got = expression_got items n item got ∙ ap Some (layer_parts (expression_layer item))
 

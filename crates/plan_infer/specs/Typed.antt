@@ -1,14 +1,16 @@
 -- What typing an expression says, and what a node denotes that is typed.
 use Rattle.std.specs.Prelude.{ℕ, List, ◌≡◌, Bool, true, Result, Ok}
 use Rattle.plan_types.specs.Types.{Ty, is_known}
+use Rattle.plan_types.specs.Errors.{IsRefusal}
 use Rattle.plan_types.specs.declared.error.ErrorKind.{ErrorKind}
+use Rattle.plan_types.specs.declared.error.PlanError.{PlanError}
 use Rattle.plan_dsl.specs.Typing.{Typed}
 use Rattle.plan_types.specs.Schemas.{Columns}
 use Rattle.plan_dsl.specs.Registry.{Registry}
 use Rattle.plan_dsl.specs.Ops.{Expression}
 use Rattle.plan_arena.specs.declared.aexpr.AExpr.{AExpr}
 use Rattle.plan_arena.specs.Denotation.{Denotes}
-use Rattle.plan_arena.specs.Items.{HoldsFrom}
+use Rattle.plan_arena.specs.Items.{HoldsExpression, HoldsFrom}
 use Rattle.plan_dsl.specs.Typing.{typing}
 
 -- the expression has this type
@@ -34,3 +36,7 @@ pub record DenotesKnown (registry : Registry) (schema : Columns) (first : ℕ) (
   pub tree : Expression
   pub denotes : Denotes (HoldsFrom first items) n tree
   pub has : HasKnownType (typing registry schema tree)
+
+-- the refusal is that of the typing of whatever expression the node denotes
+abbrev pub IsNodeRefusal : Registry → Columns → List AExpr → ℕ → PlanError → Type 0
+IsNodeRefusal registry schema items n error = (t : Expression) → Denotes (HoldsExpression items) n t → IsRefusal (typing registry schema t) error

@@ -68,7 +68,10 @@ pub trait AExprFields {
     ) -> Result<Field, PlanError>
         requires { HasOperands arena.now (item self.now) }
         ensures ok { IfOk result (IsItemField (registry udfs.now) (columns schema.now) ctxt arena.now (item self.now)) }
-        ensures err { IfErr result (IsItemRefusal (registry udfs.now) (columns schema.now) arena.now (item self.now)) };
+        ensures err { IfErr result (IsItemRefusal (registry udfs.now) (columns schema.now) arena.now (item self.now)) }
+    {
+        self.to_field(alloc, schema, ctxt, arena, udfs)
+    }
 }
 
 impl AExprFields for AExpr {
@@ -87,17 +90,6 @@ impl AExprFields for AExpr {
         let name = item_name(self, alloc, arena, &types)?;
         let dtype = dtype_in(ctxt, &own, alloc)?;
         Ok(Field { name, dtype })
-    }
-
-    fn to_field_and_validate(
-        &self,
-        alloc: Global,
-        schema: &Schema,
-        ctxt: Context,
-        arena: &Arena<AExpr>,
-        udfs: &Udfs,
-    ) -> Result<Field, PlanError> {
-        self.to_field(alloc, schema, ctxt, arena, udfs)
     }
 }
 
@@ -144,7 +136,10 @@ pub trait AExprTyping {
     ) -> Result<DataType, PlanError>
         requires { HasOperands arena.now (item self.now) }
         ensures ok { IfOk result (IsItemType (registry udfs.now) (columns schema.now) ctxt arena.now (item self.now)) }
-        ensures err { IfErr result (IsItemRefusal (registry udfs.now) (columns schema.now) arena.now (item self.now)) };
+        ensures err { IfErr result (IsItemRefusal (registry udfs.now) (columns schema.now) arena.now (item self.now)) }
+    {
+        self.to_dtype(alloc, schema, ctxt, arena, udfs)
+    }
 }
 
 impl AExprTyping for AExpr {
@@ -176,17 +171,6 @@ impl AExprTyping for AExpr {
         let own = type_item(self, alloc, schema, arena, udfs, &mut types)?;
         let dtype = dtype_in(ctxt, &own, alloc)?;
         Ok(dtype)
-    }
-
-    fn get_type(
-        &self,
-        alloc: Global,
-        schema: &Schema,
-        ctxt: Context,
-        arena: &Arena<AExpr>,
-        udfs: &Udfs,
-    ) -> Result<DataType, PlanError> {
-        self.to_dtype(alloc, schema, ctxt, arena, udfs)
     }
 }
 

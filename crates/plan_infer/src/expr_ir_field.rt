@@ -1,14 +1,13 @@
 //! The name and type of the column of an expression of a lowered plan.
 ghost use Rattle.std.specs.Prelude.{◌≡◌, ℕ, IfOk, IfErr};
-ghost use Rattle.plan_types.specs.Errors.{IsRefusal};
 ghost use Rattle.plan_types.specs.Schemas.{columns};
 ghost use Rattle.plan_dsl.specs.Ops.{Expression};
 ghost use Rattle.plan_dsl.specs.Plans.{Named};
 ghost use Rattle.plan_dsl.specs.Registry.{registry};
-ghost use Rattle.plan_dsl.specs.Typing.{typing};
 ghost use Rattle.plan_arena.specs.Denotation.{Denotes, DenotesTree};
 ghost use Rattle.plan_arena.specs.Items.{HoldsExpression, named_node};
 ghost use Rattle.plan_infer.specs.ItemTrees.{IsTypeOf};
+ghost use Rattle.plan_infer.specs.Typed.{IsNodeRefusal};
 
 use crate::field::{Context, dtype_in};
 use crate::type_table::TypeTable;
@@ -40,8 +39,7 @@ pub trait ExprIRTyping {
         requires { DenotesTree (HoldsExpression arena.now) (named self.now).expression }
         ensures ok { IfOk result (λ dtype. (t : Expression) → Denotes (HoldsExpression arena.now) (named self.now).expression t →
             IsTypeOf (registry udfs.now) (columns schema.now) ctxt t dtype) }
-        ensures err { IfErr result (λ error. (t : Expression) → Denotes (HoldsExpression arena.now) (named self.now).expression t →
-            IsRefusal (typing (registry udfs.now) (columns schema.now) t) error) };
+        ensures err { IfErr result (IsNodeRefusal (registry udfs.now) (columns schema.now) arena.now (named self.now).expression) };
 
     /// That type, with the name under which the expression is recorded.
     fn field(
@@ -56,8 +54,7 @@ pub trait ExprIRTyping {
         ensures name { IfOk result (λ field. field.name ≡ (named self.now).label.name) }
         ensures dtype { IfOk result (λ field. (t : Expression) → Denotes (HoldsExpression arena.now) (named self.now).expression t →
             IsTypeOf (registry udfs.now) (columns schema.now) ctxt t field.dtype) }
-        ensures err { IfErr result (λ error. (t : Expression) → Denotes (HoldsExpression arena.now) (named self.now).expression t →
-            IsRefusal (typing (registry udfs.now) (columns schema.now) t) error) };
+        ensures err { IfErr result (IsNodeRefusal (registry udfs.now) (columns schema.now) arena.now (named self.now).expression) };
 }
 
 impl ExprIRTyping for ExprIR {

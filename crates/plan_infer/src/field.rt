@@ -1,15 +1,15 @@
 //! The name and type of a node's column.
 ghost use Rattle.std.specs.Prelude.{◌≡◌, ◌<◌, ◌≤◌, ◌+◌, IfOk, IfErr, OnOk, OnErr};
-ghost use Rattle.plan_types.specs.Errors.{IsRefusal, no_memory};
+ghost use Rattle.plan_types.specs.Errors.{no_memory};
 ghost use Rattle.plan_types.specs.Schemas.{columns};
 ghost use Rattle.plan_types.specs.Types.{ty};
 ghost use Rattle.plan_dsl.specs.Ops.{Expression};
 ghost use Rattle.plan_dsl.specs.Registry.{registry};
-ghost use Rattle.plan_dsl.specs.Typing.{typing};
 ghost use Rattle.plan_arena.specs.Denotation.{Denotes, DenotesTree};
 ghost use Rattle.plan_arena.specs.Items.{HoldsExpression};
 ghost use Rattle.plan_infer.specs.Fields.{IsFieldOf, type_in};
 ghost use Rattle.plan_infer.specs.KeptTypes.{Extends, IsKept, IsRight, kept_count, typed_of};
+ghost use Rattle.plan_infer.specs.Typed.{IsNodeRefusal};
 
 use crate::steps::Steps;
 use crate::type_table::{Inferred, TypeTable};
@@ -65,8 +65,7 @@ impl TypeTable {
         ensures extends { Extends self.old self.new }
         ensures counted { OnOk result (typings.new + kept_count self.old ≡ typings.old + kept_count self.new) }
         ensures refused { OnErr result (typings.new + kept_count self.old ≤ typings.old + kept_count self.new + 1) }
-        ensures err { IfErr result (λ error. (t : Expression) → Denotes (HoldsExpression arena.now) node.0 t →
-            IsRefusal (typing (registry udfs.now) (columns schema.now) t) error) }
+        ensures err { IfErr result (IsNodeRefusal (registry udfs.now) (columns schema.now) arena.now node.0) }
     {
         type_node(node, arena, schema, udfs, self, typings)?;
         let label = self.output_name(node, arena)?;
@@ -88,8 +87,7 @@ impl TypeTable {
         ensures kept { OnOk result (IsKept self.new node.0) }
         ensures right { IsRight (registry udfs.now) (columns schema.now) arena.now self.new }
         ensures extends { Extends self.old self.new }
-        ensures err { IfErr result (λ error. (t : Expression) → Denotes (HoldsExpression arena.now) node.0 t →
-            IsRefusal (typing (registry udfs.now) (columns schema.now) t) error) }
+        ensures err { IfErr result (IsNodeRefusal (registry udfs.now) (columns schema.now) arena.now node.0) }
     {
         self.infer_by::<Brand>(node, schema, arena, udfs, Blank::new(1))
     }
@@ -111,8 +109,7 @@ impl TypeTable {
         ensures kept { OnOk result (IsKept self.new node.0) }
         ensures right { IsRight (registry udfs.now) (columns schema.now) arena.now self.new }
         ensures extends { Extends self.old self.new }
-        ensures err { IfErr result (λ error. (t : Expression) → Denotes (HoldsExpression arena.now) node.0 t →
-            IsRefusal (typing (registry udfs.now) (columns schema.now) t) error) }
+        ensures err { IfErr result (IsNodeRefusal (registry udfs.now) (columns schema.now) arena.now node.0) }
     {
         let mut typings = Steps::<M>::new(blank);
         type_node(node, arena, schema, udfs, self, &mut typings)

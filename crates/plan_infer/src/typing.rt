@@ -5,14 +5,15 @@ ghost use Rattle.plan_types.specs.Errors.{IsRefusal, no_memory};
 ghost use Rattle.plan_types.specs.Schemas.{Columns, Name, columns, type_at};
 ghost use Rattle.plan_types.specs.Types.{is_known, ty};
 ghost use Rattle.plan_types.specs.declared.dtype.CastOptions.{CastOptions};
-ghost use Rattle.plan_dsl.specs.Ops.{AliasOp, ColumnOp, BinaryOp, CastOp, Expression};
+ghost use Rattle.plan_dsl.specs.Ops.{AliasOp, ColumnOp, BinaryOp, CastOp};
 ghost use Rattle.plan_dsl.specs.Registry.{Registry, registry};
 ghost use Rattle.plan_dsl.specs.Literals.{literal_op, literal_type, literal_value};
-ghost use Rattle.plan_dsl.specs.Typing.{column_type, typing, typing_rule, literal_taken};
-ghost use Rattle.plan_arena.specs.Denotation.{Denotes, DenotesTree};
+ghost use Rattle.plan_dsl.specs.Typing.{column_type, typing_rule, literal_taken};
+ghost use Rattle.plan_arena.specs.Denotation.{DenotesTree};
 ghost use Rattle.plan_arena.specs.Layers.{op_of, inputs_of};
 ghost use Rattle.plan_arena.specs.Items.{HoldsExpression, expression_layer, numbers};
 ghost use Rattle.plan_infer.specs.KeptTypes.{Extends, IsKept, IsNamedBy, IsRight, IsRuled, kept_count, name_at, node_depth, typings_at};
+ghost use Rattle.plan_infer.specs.Typed.{IsNodeRefusal};
 
 use crate::function_types::function_typing;
 use crate::operator_types::{common_integer, operand_types};
@@ -51,8 +52,7 @@ pub(crate) fn type_node<M: Ledger>(
     ensures below { (n : ℕ) → IsKept types.new n → IsKept types.old n ⊎ (node_depth arena.now n ≤ node_depth arena.now node.0) }
     ensures counted { OnOk result (typings.new + kept_count types.old ≡ typings.old + kept_count types.new) }
     ensures refused { OnErr result (typings.new + kept_count types.old ≤ typings.old + kept_count types.new + 1) }
-    ensures err { IfErr result (λ error. (t : Expression) → Denotes (HoldsExpression arena.now) node.0 t →
-        IsRefusal (typing (registry udfs.now) (columns schema.now) t) error) }
+    ensures err { IfErr result (IsNodeRefusal (registry udfs.now) (columns schema.now) arena.now node.0) }
 {
     if types.kept(node).is_some() {
         return Ok(());
@@ -94,8 +94,8 @@ fn type_column<M: Ledger>(
     ensures only { (n : ℕ) → IsKept types.new n → IsKept types.old n ⊎ (n ≡ node.0) }
     ensures counted { OnOk result (typings.new + kept_count types.old ≡ typings.old + kept_count types.new) }
     ensures refused { OnErr result (typings.new + kept_count types.old ≤ typings.old + kept_count types.new + 1) }
-    ensures err { IfErr result (λ error. (registry : Registry) → IsRight registry (columns schema.now) arena.now types.old → (t : Expression) →
-        Denotes (HoldsExpression arena.now) node.0 t → IsRefusal (typing registry (columns schema.now) t) error) }
+    ensures err { IfErr result (λ error. (registry : Registry) → IsRight registry (columns schema.now) arena.now types.old →
+        IsNodeRefusal registry (columns schema.now) arena.now node.0 error) }
 {
     let found = match column_dtype(name, schema, typings.step()) {
         Ok(found) => found,
@@ -131,8 +131,8 @@ fn type_literal<M: Ledger>(
     ensures only { (n : ℕ) → IsKept types.new n → IsKept types.old n ⊎ (n ≡ node.0) }
     ensures counted { OnOk result (typings.new + kept_count types.old ≡ typings.old + kept_count types.new) }
     ensures refused { OnErr result (typings.new + kept_count types.old ≤ typings.old + kept_count types.new + 1) }
-    ensures err { IfErr result (λ error. (registry : Registry) (schema : Columns) → IsRight registry schema arena.now types.old → (t : Expression) →
-        Denotes (HoldsExpression arena.now) node.0 t → IsRefusal (typing registry schema t) error) }
+    ensures err { IfErr result (λ error. (registry : Registry) (schema : Columns) → IsRight registry schema arena.now types.old →
+        IsNodeRefusal registry schema arena.now node.0 error) }
 {
     let dtype = literal_dtype(value, typings.step())?;
     types.add(
@@ -166,8 +166,8 @@ fn type_operator<M: Ledger>(
     ensures only { (n : ℕ) → IsKept types.new n → IsKept types.old n ⊎ (n ≡ node.0) }
     ensures counted { OnOk result (typings.new + kept_count types.old ≡ typings.old + kept_count types.new) }
     ensures refused { OnErr result (typings.new + kept_count types.old ≤ typings.old + kept_count types.new + 1) }
-    ensures err { IfErr result (λ error. (registry : Registry) (schema : Columns) → IsRight registry schema arena.now types.old → (t : Expression) →
-        Denotes (HoldsExpression arena.now) node.0 t → IsRefusal (typing registry schema t) error) }
+    ensures err { IfErr result (λ error. (registry : Registry) (schema : Columns) → IsRight registry schema arena.now types.old →
+        IsNodeRefusal registry schema arena.now node.0 error) }
 {
     let step = typings.step();
     let own = binary_typing(op, &[left, right], types, arena.allocator(), step)?;
@@ -195,8 +195,7 @@ fn type_ready<M: Ledger>(
     ensures only { (n : ℕ) → IsKept types.new n → IsKept types.old n ⊎ (n ≡ node.0) }
     ensures counted { OnOk result (typings.new + kept_count types.old ≡ typings.old + kept_count types.new) }
     ensures refused { OnErr result (typings.new + kept_count types.old ≤ typings.old + kept_count types.new + 1) }
-    ensures err { IfErr result (λ error. (t : Expression) → Denotes (HoldsExpression arena.now) node.0 t →
-        IsRefusal (typing (registry udfs.now) (columns schema.now) t) error) }
+    ensures err { IfErr result (IsNodeRefusal (registry udfs.now) (columns schema.now) arena.now node.0) }
 {
     let nodes = item.inputs(arena.allocator())?;
     type_over(
@@ -234,8 +233,7 @@ fn type_over<M: Ledger>(
     ensures only { (n : ℕ) → IsKept types.new n → IsKept types.old n ⊎ (n ≡ node.0) }
     ensures counted { OnOk result (typings.new + kept_count types.old ≡ typings.old + kept_count types.new) }
     ensures refused { OnErr result (typings.new + kept_count types.old ≤ typings.old + kept_count types.new + 1) }
-    ensures err { IfErr result (λ error. (t : Expression) → Denotes (HoldsExpression arena.now) node.0 t →
-        IsRefusal (typing (registry udfs.now) (columns schema.now) t) error) }
+    ensures err { IfErr result (IsNodeRefusal (registry udfs.now) (columns schema.now) arena.now node.0) }
 {
     let step = typings.step();
     let own = own_typing(

@@ -20,7 +20,7 @@ ghost use Rattle.plan_infer.specs.TakenTypes.{kept_types};
 ghost use Rattle.plan_infer.specs.declared.taken_types.Kept.TheVariants.{Nothing, Both, Listed};
 ghost use Rattle.plan_infer.specs.declared.field.Context.TheVariants.{Default, Aggregation};
 ghost use Rattle.plan_types.specs.declared.field.Field.{Field};
-ghost use Rattle.plan_infer.specs.Typed.{HasType, HasKnownType};
+ghost use Rattle.plan_infer.specs.Typed.{HasType, HasKnownType, IsNodeRefusal};
 ghost use Rattle.plan_infer.specs.Samples.{int8, int16, int32, int64, one_column, two_columns, columns_of, struct_of, a, b, c, number, five, binary, cast_to, strictly_cast_to, sum_items, a_items, pair, of_one, of_type, refused, sum, ForEntry, ForTable, HaveTypes, AreRefused};
 
 /// What typing an expression says: its type, and whether that is one of columns. Casts have their target's type.
@@ -69,6 +69,8 @@ pub fn refusals_of_expressions()
     ensures other_kind { ¬ (IsRefusal (typing [] (one_column int8) c) (at_top SchemaMismatch)) }
     ensures other_place { ¬ (IsRefusal (typing [] (one_column int8) c) (refused ColumnNotFound (0 ∷ []))) }
     ensures of_what_is_typed { ¬ (IsRefusal (typing [] (one_column int8) a) (at_top ColumnNotFound)) }
+    ensures of_a_node { IsNodeRefusal [] [] a_items 0 (at_top ColumnNotFound) }
+    ensures of_a_typed_node { ¬ (IsNodeRefusal [] (one_column int8) a_items 0 (at_top ColumnNotFound)) }
     ensures texts_and_times { AreRefused InvalidOperation ((columns_of TextType int32, binary Eq a b) ∷
         (columns_of (DatetimeType Nanoseconds) TextType, binary Lt a b) ∷ (one_column DateType, binary Plus a a) ∷
         (one_column TextType, binary Plus a five) ∷ (one_column TextType, cast_to DateType a) ∷ ([], strictly_cast_to TimeType five) ∷ []) }

@@ -5,13 +5,14 @@ use Rattle.plan_dsl.specs.Names.{first_label, literal_label}
 use Rattle.plan_arena.specs.Items.{expression_layer, output_label}
 use Rattle.plan_arena.specs.Layers.{inputs_of}
 use Rattle.plan_infer.specs.KeptTypes.{IsKept}
-use Rattle.plan_infer.proofs.ItemTreeLemmas.{first_has, named_by_first, named_without_inputs}
+use Rattle.plan_arena.proofs.NumberLemmas.{all_there}
+use Rattle.plan_infer.proofs.ItemTreeLemmas.{named_by_first, named_without_inputs}
 use Rattle.plan_infer.proofs.aexpr_field.item_label.Goals as goal
 
 pub output_name-requires-clause-kept : goal.output_name-requires-clause-kept
 output_name-requires-clause-kept c =
     let there = ap (λ ns. slice_get ns 0) (sym c.input_nodes.ensures) ∙ c.in-Some-first.ensures in
-    first_has (IsKept c.args.types.now) (inputs_of (expression_layer c.args.item.now)) c.in-Some-first.first.0 c.requires.kept there
+    all_there (IsKept c.args.types.now) (inputs_of (expression_layer c.args.item.now)) c.requires.kept 0 c.in-Some-first.first.0 there
 
 pub returns-in_ok-name-in-Some-first-clause-ok : goal.returns-in_ok-name-in-Some-first-clause-ok
 returns-in_ok-name-in-Some-first-clause-ok c =
