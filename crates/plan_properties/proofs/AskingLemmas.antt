@@ -9,9 +9,9 @@ use Rattle.plan_dsl.specs.declared.function_expr.FunctionExpr.TheVariants.{IsIn}
 use Rattle.plan_dsl.specs.Ops.{Op, AggOp, Expression}
 use Rattle.plan_dsl.specs.Trees.{Trees, node, no_more, more, top_op}
 use Rattle.plan_arena.specs.declared.aexpr.AExpr.{AExpr}
-use Rattle.plan_arena.specs.declared.aexpr.AExpr.TheVariants.{Agg, Alias, BinaryExpr, Cast, Column, Explode, Filter, Function, Gather, Len, Literal, Slice, Sort, SortBy, Ternary, Window}
+use Rattle.plan_arena.specs.declared.aexpr.AExpr.TheVariants.{Agg, Len}
 use Rattle.plan_arena.specs.Denotation.{Denotes, DenoteAll, DenotesTree, depth_at, greatest}
-use Rattle.plan_arena.specs.Items.{HoldsExpression, expression_layer}
+use Rattle.plan_arena.specs.Items.{HoldsExpression, expression_layer, numbers_named}
 use Rattle.plan_arena.specs.Layers.{Layer, layer, op_of, inputs_of, shape_of}
 use Rattle.plan_arena.proofs.DenotationLemmas.{depth_of_inputs}
 use Rattle.plan_arena.proofs.ItemLemmas.{expression_inputs, expression_laws, held_top, one_child}
@@ -20,7 +20,7 @@ use Rattle.plan_infer.specs.ItemTrees.{LayerDenotes}
 use Rattle.plan_infer.proofs.TableLemmas.{layer_held}
 use Rattle.plan_arena.specs.declared.arena.Node.{Node}
 use Rattle.plan_arena.specs.declared.expr_ir.ExprIR.{ExprIR}
-use Rattle.plan_properties.specs.Asking.{AllDenote, SaysOfNode, is_literal_item, literals_at, nodes_of}
+use Rattle.plan_properties.specs.Asking.{AllDenote, SaysOfNode, is_literal_item, literals_at}
 use Rattle.plan_properties.specs.Properties.{all_hold, all_trees, asks_literal, can_pre_agg, has_column, has_single_functions, holds_by, is_elementwise, is_literal, literals, merges}
 
 -- ---- operands
@@ -132,28 +132,15 @@ aggregates items item method n answer op_is inputs_are says (node op ts) d =
 pub no_aggregate : (items : List AExpr) (item : AExpr) → item ≢ Len → ((aggregate : _) → item ≢ Agg aggregate) → (t : Expression) → LayerDenotes items (expression_layer item) t → false ≡ can_pre_agg t
 no_aggregate items Len not_len not_agg t d = absurd (not_len refl)
 no_aggregate items (Agg aggregate) not_len not_agg t d = absurd (not_agg aggregate refl)
-no_aggregate items (Column name) not_len not_agg (node op ts) d = ap (λ o. can_pre_agg (node o ts)) d.0
-no_aggregate items (Literal value) not_len not_agg (node op ts) d = ap (λ o. can_pre_agg (node o ts)) d.0
-no_aggregate items (BinaryExpr left operator right) not_len not_agg (node op ts) d = ap (λ o. can_pre_agg (node o ts)) d.0
-no_aggregate items (Cast expr dtype options) not_len not_agg (node op ts) d = ap (λ o. can_pre_agg (node o ts)) d.0
-no_aggregate items (Slice input offset length) not_len not_agg (node op ts) d = ap (λ o. can_pre_agg (node o ts)) d.0
-no_aggregate items (Explode input) not_len not_agg (node op ts) d = ap (λ o. can_pre_agg (node o ts)) d.0
-no_aggregate items (Gather expr idx scalar) not_len not_agg (node op ts) d = ap (λ o. can_pre_agg (node o ts)) d.0
-no_aggregate items (Filter input by) not_len not_agg (node op ts) d = ap (λ o. can_pre_agg (node o ts)) d.0
-no_aggregate items (Sort expr options) not_len not_agg (node op ts) d = ap (λ o. can_pre_agg (node o ts)) d.0
-no_aggregate items (SortBy expr by options) not_len not_agg (node op ts) d = ap (λ o. can_pre_agg (node o ts)) d.0
-no_aggregate items (Alias expr name) not_len not_agg (node op ts) d = ap (λ o. can_pre_agg (node o ts)) d.0
-no_aggregate items (Window function keys order options) not_len not_agg (node op ts) d = ap (λ o. can_pre_agg (node o ts)) d.0
-no_aggregate items (Ternary predicate truthy falsy) not_len not_agg (node op ts) d = ap (λ o. can_pre_agg (node o ts)) d.0
-no_aggregate items (Function input function) not_len not_agg (node op ts) d = ap (λ o. can_pre_agg (node o ts)) d.0
+no_aggregate items item not_len not_agg (node op ts) d = ap (λ o. can_pre_agg (node o ts)) d.0
 
 -- ---- recorded expressions
 
 -- the node of one
-pub node_there : (exprs : List ExprIR) (i : ℕ) (expr : ExprIR) (n : Node) → i < length exprs → expr ≡ get_or exprs i expr → n.0 ≡ expr.node.0 → slice_get (nodes_of exprs) i ≡ Some n.0
+pub node_there : (exprs : List ExprIR) (i : ℕ) (expr : ExprIR) (n : Node) → i < length exprs → expr ≡ get_or exprs i expr → n.0 ≡ expr.node.0 → slice_get (numbers_named exprs) i ≡ Some n.0
 node_there [] i expr n lt is same = absurd (omega (arith, lt))
 node_there (e ∷ es) zero expr n lt is same = ap Some (sym (same ∙ ap (λ (e : ExprIR). e.node.0) is))
 node_there (e ∷ es) (suc i) expr n lt is same = node_there es i expr n (omega (arith, lt)) is same
 
-pub nodes_whole : (P : ℕ → Type 0) (exprs : List ExprIR) (i : ℕ) → length exprs ≤ i → AllByRecursion P (take i (nodes_of exprs)) → AllByRecursion P (nodes_of exprs)
-nodes_whole P exprs i past all = said_whole P (nodes_of exprs) i (omega (arith, past, length-map exprs (λ (expr : ExprIR). expr.node.0))) all
+pub nodes_whole : (P : ℕ → Type 0) (exprs : List ExprIR) (i : ℕ) → length exprs ≤ i → AllByRecursion P (take i (numbers_named exprs)) → AllByRecursion P (numbers_named exprs)
+nodes_whole P exprs i past all = said_whole P (numbers_named exprs) i (omega (arith, past, length-map exprs (λ (expr : ExprIR). expr.node.0))) all

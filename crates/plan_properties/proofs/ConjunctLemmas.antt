@@ -7,7 +7,7 @@ use Rattle.plan_types.specs.Schemas.{Columns}
 use Rattle.plan_types.specs.Supertypes.{supertype}
 use Rattle.plan_types.specs.CommonTypes.{type_beside}
 use Rattle.plan_types.specs.Types.{Ty, Truth}
-use Rattle.plan_types.specs.Values.{Val, NullValue, TruthValue, IntValue, TextValue, ListValue, StructValue}
+use Rattle.plan_types.specs.Values.{Val, TruthValue, IntValue}
 use Rattle.plan_types.specs.declared.error.ErrorKind.{ErrorKind}
 use Rattle.plan_types.specs.declared.error.ErrorKind.TheVariants.{InvalidOperation}
 use Rattle.plan_dsl.specs.declared.operator.Operator.{Operator}
@@ -16,7 +16,7 @@ use Rattle.plan_dsl.specs.Kernels.{given, kernel}
 use Rattle.plan_dsl.specs.Meaning.{meaning, meaning_all, node_meaning, ruled_meaning, taken_to}
 use Rattle.plan_dsl.specs.Operators.{bitwise, both_true, operator_value}
 use Rattle.plan_dsl.specs.OperatorTypes.{Taken, both_to, has_bits, is_truth_or_null, operator_types, pair_to, pair_types, with_types}
-use Rattle.plan_dsl.specs.Ops.{Op, ColumnOp, LiteralOp, BinaryOp, CastOp, LenOp, SliceOp, ExplodeOp, GatherOp, FilterOp, SortOp, SortByOp, WindowOp, AliasOp, AggOp, TernaryOp, FunctionOp, Expression}
+use Rattle.plan_dsl.specs.Ops.{Op, BinaryOp, Expression}
 use Rattle.plan_dsl.specs.Picks.{is_true}
 use Rattle.plan_dsl.specs.Registry.{Registry}
 use Rattle.plan_dsl.specs.Strictness.{are_strict, is_strict, is_strict_over}
@@ -30,60 +30,13 @@ use Rattle.plan_properties.specs.Splitting.{IsCondition, is_conjunction}
 
 both_is_true : (l r : Val) → is_true (both_true l r) ≡ (is_true l && is_true r)
 both_is_true (TruthValue true) (TruthValue r) = refl
-both_is_true (TruthValue true) NullValue = refl
-both_is_true (TruthValue true) (IntValue r) = refl
-both_is_true (TruthValue true) (TextValue r) = refl
-both_is_true (TruthValue true) (ListValue r) = refl
-both_is_true (TruthValue true) (StructValue r) = refl
 both_is_true (TruthValue false) r = refl
-both_is_true NullValue (TruthValue true) = refl
-both_is_true NullValue (TruthValue false) = refl
-both_is_true NullValue NullValue = refl
-both_is_true NullValue (IntValue r) = refl
-both_is_true NullValue (TextValue r) = refl
-both_is_true NullValue (ListValue r) = refl
-both_is_true NullValue (StructValue r) = refl
-both_is_true (IntValue l) (TruthValue true) = refl
-both_is_true (IntValue l) (TruthValue false) = refl
-both_is_true (IntValue l) NullValue = refl
-both_is_true (IntValue l) (IntValue r) = refl
-both_is_true (IntValue l) (TextValue r) = refl
-both_is_true (IntValue l) (ListValue r) = refl
-both_is_true (IntValue l) (StructValue r) = refl
-both_is_true (TextValue l) (TruthValue true) = refl
-both_is_true (TextValue l) (TruthValue false) = refl
-both_is_true (TextValue l) NullValue = refl
-both_is_true (TextValue l) (IntValue r) = refl
-both_is_true (TextValue l) (TextValue r) = refl
-both_is_true (TextValue l) (ListValue r) = refl
-both_is_true (TextValue l) (StructValue r) = refl
-both_is_true (ListValue l) (TruthValue true) = refl
-both_is_true (ListValue l) (TruthValue false) = refl
-both_is_true (ListValue l) NullValue = refl
-both_is_true (ListValue l) (IntValue r) = refl
-both_is_true (ListValue l) (TextValue r) = refl
-both_is_true (ListValue l) (ListValue r) = refl
-both_is_true (ListValue l) (StructValue r) = refl
-both_is_true (StructValue l) (TruthValue true) = refl
-both_is_true (StructValue l) (TruthValue false) = refl
-both_is_true (StructValue l) NullValue = refl
-both_is_true (StructValue l) (IntValue r) = refl
-both_is_true (StructValue l) (TextValue r) = refl
-both_is_true (StructValue l) (ListValue r) = refl
-both_is_true (StructValue l) (StructValue r) = refl
+both_is_true l (TruthValue false) = refl
+both_is_true l r = refl
 
 bits_are_true : (bit : ℕ → ℕ → ℕ) (type : Ty) (l r : Val) → is_true (bitwise bit both_true type l r) ≡ (is_true l && is_true r)
 bits_are_true bit type (IntValue l) (IntValue r) = refl
-bits_are_true bit type (IntValue l) NullValue = refl
-bits_are_true bit type (IntValue l) (TruthValue r) = both_is_true (IntValue l) (TruthValue r)
-bits_are_true bit type (IntValue l) (TextValue r) = refl
-bits_are_true bit type (IntValue l) (ListValue r) = refl
-bits_are_true bit type (IntValue l) (StructValue r) = refl
-bits_are_true bit type NullValue r = both_is_true NullValue r
-bits_are_true bit type (TruthValue l) r = both_is_true (TruthValue l) r
-bits_are_true bit type (TextValue l) r = both_is_true (TextValue l) r
-bits_are_true bit type (ListValue l) r = both_is_true (ListValue l) r
-bits_are_true bit type (StructValue l) r = both_is_true (StructValue l) r
+bits_are_true bit type l r = both_is_true l r
 
 -- it is true where both are
 pub conjunction_is_true : (operator : Operator) → is_conjunction (BinaryOp operator) ≡ true → (from type : Ty) (l r : Val) → is_true (operator_value operator from type l r) ≡ (is_true l && is_true r)
@@ -228,18 +181,4 @@ module _ (registry : Registry) (schema : Columns) where
   -- a conjunction that is a condition has two operands that are
   pub both_conditions : (op : Op) (ts : Trees Op) → is_conjunction op ≡ true → IsCondition registry schema (node op ts) → BothConditions registry schema op ts
   both_conditions (BinaryOp operator) ts s c = both_of operator ts s c
-  both_conditions (ColumnOp name) ts s c = cc
-  both_conditions (LiteralOp type value) ts s c = cc
-  both_conditions (CastOp target options) ts s c = cc
-  both_conditions LenOp ts s c = cc
-  both_conditions SliceOp ts s c = cc
-  both_conditions ExplodeOp ts s c = cc
-  both_conditions (GatherOp one) ts s c = cc
-  both_conditions FilterOp ts s c = cc
-  both_conditions (SortOp options) ts s c = cc
-  both_conditions (SortByOp descending nulls_last) ts s c = cc
-  both_conditions (WindowOp order) ts s c = cc
-  both_conditions (AliasOp name) ts s c = cc
-  both_conditions (AggOp method) ts s c = cc
-  both_conditions TernaryOp ts s c = cc
-  both_conditions (FunctionOp function recorded) ts s c = cc
+  both_conditions op ts s c = cc

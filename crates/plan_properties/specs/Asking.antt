@@ -4,7 +4,6 @@ use Rattle.std.specs.List.{AllByRecursion}
 use Rattle.plan_dsl.specs.Ops.{Op, Expression}
 use Rattle.plan_dsl.specs.Trees.{Trees}
 use Rattle.plan_arena.specs.declared.aexpr.AExpr.{AExpr}
-use Rattle.plan_arena.specs.declared.expr_ir.ExprIR.{ExprIR}
 use Rattle.plan_arena.specs.Denotation.{Denotes, DenoteAll, DenotesTree}
 use Rattle.plan_arena.specs.Items.{HoldsExpression, expression_layer}
 use Rattle.plan_arena.specs.Layers.{Layer, op_of}
@@ -49,9 +48,6 @@ SaysOfItem items item test answer = (tree : Expression) → LayerDenotes items i
 
 abbrev pub SaysOfAll : List AExpr → List ℕ → (Expression → Bool) → Bool → Type 0
 SaysOfAll items ns test answer = (trees : Trees Op) → DenoteAll (HoldsExpression items) ns trees → answer ≡ all_trees test trees
-
-abbrev pub nodes_of : List ExprIR → List ℕ
-nodes_of exprs = map (λ expr. expr.node.0) exprs
 
 -- each node denotes an expression
 abbrev pub AllDenote : List AExpr → List ℕ → Type 0

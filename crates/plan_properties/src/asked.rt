@@ -168,9 +168,9 @@ pub(crate) fn holds_of(asked: Asked, node: Node, arena: &Arena<AExpr>) -> bool
     holds_of_all(asked, &item.input_nodes(), arena)
 }
 
-// Whether it holds of all expressions that inputs denote.
+/// Whether it holds of all expressions that inputs denote.
 #[cycle(asking)]
-fn holds_of_all(asked: Asked, inputs: &Inputs<'_>, arena: &Arena<AExpr>) -> bool
+pub(crate) fn holds_of_all(asked: Asked, inputs: &Inputs<'_>, arena: &Arena<AExpr>) -> bool
     requires { AllDenote arena.now inputs.now }
     ensures { SaysOfAll arena.now inputs.now (holds_of asked) result }
 {

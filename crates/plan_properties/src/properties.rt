@@ -4,16 +4,17 @@ ghost use Rattle.plan_types.specs.Errors.{no_memory};
 ghost use Rattle.plan_dsl.specs.declared.aggregate.GroupByMethod.{GroupByMethod};
 ghost use Rattle.plan_arena.specs.Aggregates.{input_at, method_at};
 ghost use Rattle.plan_arena.specs.Denotation.{DenotesTree};
-ghost use Rattle.plan_arena.specs.Items.{HoldsExpression, expression_layer, numbers, passed};
+ghost use Rattle.plan_arena.specs.Items.{HoldsExpression, expression_layer, numbers, numbers_named, passed};
 ghost use Rattle.plan_arena.specs.Layers.{inputs_of, op_of};
-ghost use Rattle.plan_properties.specs.Asking.{AllDenote, SaysOfAll, SaysOfItem, SaysOfNode, literals_at, nodes_of};
+ghost use Rattle.plan_properties.specs.Asking.{AllDenote, SaysOfAll, SaysOfItem, SaysOfNode, literals_at};
 ghost use Rattle.plan_properties.specs.Properties.{can_pre_agg, has_column, has_single_functions, is_elementwise, is_own_elementwise, is_scalar, merges, permits_pushdown};
 
-use crate::asked::{Asked, holds_of, holds_of_item, is_own_elementwise};
+use crate::asked::{Asked, holds_of, holds_of_all, holds_of_item, is_own_elementwise};
 use plan_arena::aexpr::{AExpr, Nodes};
 use plan_arena::aggregate::IRAggExpr;
 use plan_arena::arena::{Arena, Node};
 use plan_arena::expr_ir::ExprIR;
+use plan_arena::inputs::Inputs;
 use plan_dsl::aggregate::GroupByMethod;
 use plan_dsl::udfs::Udfs;
 use plan_types::error::PlanError;
@@ -65,15 +66,10 @@ pub fn permits_filter_pushdown_rec(ae: &AExpr, arena: &Arena<AExpr>, _udfs: &Udf
 
 /// Whether each row has a value of its own, of all expressions.
 pub fn all_elementwise(exprs: &[ExprIR], arena: &Arena<AExpr>, _udfs: &Udfs) -> bool
-    requires { AllDenote arena.now (nodes_of exprs.now) }
-    ensures { SaysOfAll arena.now (nodes_of exprs.now) is_elementwise result }
+    requires { AllDenote arena.now (numbers_named exprs.now) }
+    ensures { SaysOfAll arena.now (numbers_named exprs.now) is_elementwise result }
 {
-    for expr in exprs {
-        if !holds_of(Asked::Elementwise, expr.node(), arena) {
-            return false;
-        }
-    }
-    true
+    holds_of_all(Asked::Elementwise, &Inputs::of_exprs(exprs), arena)
 }
 
 /// Whether the expression at a node has one value.
@@ -153,8 +149,8 @@ fn merges(method: GroupByMethod) -> bool
 
 /// Whether it can be made so of all expressions.
 pub fn can_pre_agg_exprs(exprs: &[ExprIR], arena: &Arena<AExpr>, udfs: &Udfs) -> bool
-    requires { AllDenote arena.now (nodes_of exprs.now) }
-    ensures { SaysOfAll arena.now (nodes_of exprs.now) can_pre_agg result }
+    requires { AllDenote arena.now (numbers_named exprs.now) }
+    ensures { SaysOfAll arena.now (numbers_named exprs.now) can_pre_agg result }
 {
     for expr in exprs {
         if !can_pre_agg(expr.node(), arena, udfs) {

@@ -1,26 +1,10 @@
-use Rattle.std.proofs.Common.{◌+◌, subst, arith}
-use Rattle.plan_properties.specs.Asking.{SaysOfNode, nodes_of}
+use Rattle.std.proofs.Common.{sym, subst}
+use Rattle.plan_properties.specs.Asking.{AllDenote, SaysOfAll}
 use Rattle.plan_properties.specs.Properties.{is_elementwise}
-use Rattle.plan_arena.proofs.NumberLemmas.{all_there}
-use Rattle.plan_properties.proofs.AskingLemmas.{all_said, nodes_whole, node_there, one_unsaid, said_more}
 use Rattle.plan_properties.proofs.properties.all_elementwise.Goals as goal
 
-pub holds_of-requires : goal.holds_of-requires
-holds_of-requires c =
-    let there = node_there c.args.exprs.now c.loop-expr.expr-index c.expr-item.result c.node.result c.loop-expr-test.true c.expr-item.is c.node.ensures in
-    all_there _ (nodes_of c.args.exprs.now) c.requires c.loop-expr.expr-index c.node.result.0 there
-
-pub returns-then-not-holds_of : goal.returns-then-not-holds_of
-returns-then-not-holds_of c =
-    let there = node_there c.args.exprs.now c.loop-expr.expr-index c.expr-item.result c.node.result c.loop-expr-test.true c.expr-item.is c.node.ensures in
-    let says = subst (SaysOfNode c.args.arena.now c.node.result.0 is_elementwise) c.if-not-holds_of.true c.holds_of.ensures in
-    one_unsaid c.args.arena.now is_elementwise (nodes_of c.args.exprs.now) c.loop-expr.expr-index c.node.result.0 there says
-
-pub loop-expr-preserved : goal.loop-expr-preserved
-loop-expr-preserved c =
-    let there = node_there c.args.exprs.now c.loop-expr.expr-index c.expr-item.result c.node.result c.loop-expr-test.true c.expr-item.is c.node.ensures in
-    let says = subst (SaysOfNode c.args.arena.now c.node.result.0 is_elementwise) c.if-not-holds_of.false c.holds_of.ensures in
-    said_more _ (nodes_of c.args.exprs.now) c.loop-expr.expr-index (c.loop-expr.expr-index + 1) c.node.result.0 (omega arith) there c.loop-expr.invariant says
+pub holds_of_all-requires : goal.holds_of_all-requires
+holds_of_all-requires c = subst (AllDenote c.args.arena.now) (sym c.of_exprs.ensures) c.requires
 
 pub returns : goal.returns
-returns c = all_said c.args.arena.now is_elementwise (nodes_of c.args.exprs.now) (nodes_whole _ c.args.exprs.now c.loop-expr.expr-index c.loop-expr-test.false c.loop-expr.invariant)
+returns c = subst (λ ns. SaysOfAll c.args.arena.now ns is_elementwise c.holds_of_all.result) c.of_exprs.ensures c.holds_of_all.ensures

@@ -1,10 +1,6 @@
-use Rattle.std.proofs.Common.{[], ◌∷◌, map, ap, refl, subst, arith}
-use Rattle.plan_arena.specs.Denotation.{depth_at, greatest}
-use Rattle.plan_arena.specs.Items.{expression_layer}
-use Rattle.plan_arena.specs.Layers.{shape_of}
+use Rattle.std.proofs.Common.{[], ◌∷◌, arith}
 use Rattle.plan_arena.proofs.ItemLemmas.{tree_within}
-use Rattle.plan_properties.specs.Asking.{AllDenote}
-use Rattle.plan_properties.proofs.AskingLemmas.{at_most_greatest, depth_over, operands_denote}
+use Rattle.plan_infer.proofs.OperatorLemmas.{inputs_below}
 use Rattle.plan_properties.proofs.PartLemmas.{both_parts, on_ok, only_part}
 use Rattle.plan_properties.proofs.splitting.+push_conjuncts.Goals as goal
 
@@ -13,25 +9,13 @@ get-requires t c = tree_within c.args.arena.now c.args.node.0 c.requires
 
 pub push_conjuncts-requires : goal.push_conjuncts-requires
 push_conjuncts-requires t c =
-    let items = c.args.arena.now in
-    let value = depth_at (shape_of (map expression_layer items)) in
-    let item = c.get.result.now in
-    let ns = c.in-Some.left.0 ∷ c.in-Some.right.0 ∷ [] in
-    let inputs = c.in-Some.ensures.1 in
-    let over = depth_over items c.args.node.0 item c.get.ensures c.requires in
-    let all = subst (AllDenote items) inputs (operands_denote items c.args.node.0 item c.get.ensures c.requires) in
-    (omega (arith, c.decreases, over, ap (greatest value) inputs, at_most_greatest value ns 0 c.in-Some.left.0 refl), all.0)
+    let below = inputs_below c.args.arena.now c.args.node.0 c.get.result.now (c.in-Some.left.0 ∷ c.in-Some.right.0 ∷ []) c.get.ensures c.requires c.in-Some.ensures.1 in
+    (omega (arith, c.decreases, below.0.1), below.0.0)
 
 pub push_conjuncts-requires-in-Some : goal.push_conjuncts-requires-in-Some
 push_conjuncts-requires-in-Some t c =
-    let items = c.args.arena.now in
-    let value = depth_at (shape_of (map expression_layer items)) in
-    let item = c.get.result.now in
-    let ns = c.in-Some.left.0 ∷ c.in-Some.right.0 ∷ [] in
-    let inputs = c.in-Some.ensures.1 in
-    let over = depth_over items c.args.node.0 item c.get.ensures c.requires in
-    let all = subst (AllDenote items) inputs (operands_denote items c.args.node.0 item c.get.ensures c.requires) in
-    (omega (arith, c.decreases, over, ap (greatest value) inputs, at_most_greatest value ns 1 c.in-Some.right.0 refl), all.1.0)
+    let below = inputs_below c.args.arena.now c.args.node.0 c.get.result.now (c.in-Some.left.0 ∷ c.in-Some.right.0 ∷ []) c.get.ensures c.requires c.in-Some.ensures.1 in
+    (omega (arith, c.decreases, below.1.0.1), below.1.0.0)
 
 pub returns-in_ok-push_conjuncts-in-Some-clause-ok :
     goal.returns-in_ok-push_conjuncts-in-Some-clause-ok
