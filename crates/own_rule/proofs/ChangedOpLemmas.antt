@@ -14,18 +14,18 @@ use Rattle.plan_arena.specs.declared.aexpr.AExpr.{AExpr}
 use Rattle.plan_arena.specs.Denotation.{Denotes, DenoteAll}
 use Rattle.plan_arena.specs.Items.{AreNamesOver, HoldsExpression, expression_layer}
 use Rattle.plan_arena.specs.Layers.{inputs_of, layer, shape_of}
-use Rattle.plan_arena.proofs.DenotationLemmas.{all_kept_below, denotes_one, replaced, same_or_other}
+use Rattle.plan_arena.proofs.DenotationLemmas.{all_kept_below, denotes_one, same_or_other}
 use Rattle.plan_arena.proofs.ItemLemmas.{any_node, expression_elsewhere, expression_got, expression_laws, got_held, expression_written, held_top, within}
 use Rattle.plan_infer.specs.declared.type_table.Inferred.{Inferred}
 use Rattle.plan_infer.specs.declared.type_table.TypeTable.{TypeTable}
 use Rattle.plan_infer.specs.KeptTypes.{AllKept, GivesName, IsKept, IsRight, IsTypedNode}
-use Rattle.plan_infer.proofs.TableLemmas.{extends_itself, held_inputs, held_op, known_typed, node_stays}
+use Rattle.plan_infer.proofs.TableLemmas.{held_inputs, held_op, known_typed}
 use Rattle.plan_coerce.specs.Reaching.{AreMadeOnce, IsClosed, Near, StaysOnce}
 use Rattle.plan_coerce.specs.Rules.{IsLike, IsReplacement, IsSameOnFrames}
 use Rattle.plan_coerce.proofs.OnceLemmas.{over_once}
 use Rattle.plan_coerce.proofs.ReachLemmas.{closed_put, closed_start, inputs_near, reached_near, root_near}
+use Rattle.plan_coerce.proofs.PlacedRightLemmas.{placed_right}
 use Rattle.plan_coerce.proofs.RightLemmas.{node_within}
-use Rattle.plan_coerce.proofs.TurnLemmas.{node_like}
 
 -- A node of which something is kept, and the item of another op over its inputs: over what these denote both say the same,
 -- and have one rule.
@@ -120,17 +120,10 @@ module _ {registry : Registry} {schema : Columns} {old : List AExpr} {table : Ty
               (reached_near old (at ∷ []) new (at ∷ []) n still_closed (root_near old at, tt) reached);
         })
 
-  -- each expression is typed and named as it was
-  abbrev Any : Expression → Expression → Type 0
-  Any before after = Unit
-
-  says_same : (n : ℕ) (t : Expression) → Denotes (HoldsExpression old) n t → (u : Expression) × Denotes (HoldsExpression new) n u × IsLike Any registry schema t u
-  says_same n t d =
-      let k = known_typed registry schema old table change.right at change.kept in
-      let here = any_node 0 old at k.tree k.denotes in
-      let over = over_there k.tree here in
-      let like : IsLike Any registry schema k.tree (node change.to over.operands) = subst (λ u. IsLike Any registry schema u (node change.to over.operands)) (sym over.whole) (record { same = change.same over.operands over.denoted; relates = tt }) in
-      replaced (shape_of (map expression_layer old)) (HoldsExpression old) (HoldsExpression new) (expression_laws old) at elsewhere k.tree here (IsLike Any registry schema) (node_like Any registry schema (λ op ts us all. tt)) (node change.to over.operands) over.denotes like n t d
+  becomes_there : (t : Expression) → Denotes (HoldsExpression old) at t → (u : Expression) × Denotes (HoldsExpression new) at u × IsSameOnFrames registry schema t u
+  becomes_there t d =
+      let over = over_there t d in
+      (node change.to over.operands, over.denotes, subst (λ u. IsSameOnFrames registry schema u (node change.to over.operands)) (sym over.whole) (change.same over.operands over.denoted))
 
   -- what gives an expression its name does so still
   still_named : (n : ℕ) (t u : Expression) → GivesName old n t → label_of u ≡ label_of t → GivesName new n u
@@ -146,12 +139,12 @@ module _ {registry : Registry} {schema : Columns} {old : List AExpr} {table : Ty
   -- so what is kept stays right, of the node itself
   right_here : (own : Inferred) → IsTypedNode registry schema old table at own → IsTypedNode registry schema new table at own
   right_here own e =
-      let r = says_same at e.tree e.denotes in
+      let r = becomes_there e.tree e.denotes in
       record {
         tree = r.0;
         denotes = r.1;
-        typed = r.2.same.typing ∙ e.typed;
-        name = still_named own.name.0 e.tree r.0 e.name r.2.same.name;
+        typed = r.2.typing ∙ e.typed;
+        name = still_named own.name.0 e.tree r.0 e.name r.2.name;
         inputs = λ op ns h. subst (AllByRecursion (IsKept table)) (held_inputs new at change.to op change.inputs ns put h) (e.inputs change.from change.inputs held);
         operands = λ op ns typed ruling h kept rules.
             let ops = held_op new at change.to op change.inputs ns put h in
@@ -161,15 +154,5 @@ module _ {registry : Registry} {schema : Columns} {old : List AExpr} {table : Ty
       }
 
   -- and of any other
-  right_elsewhere : (n : ℕ) (own : Inferred) → n ≢ at → IsTypedNode registry schema old table n own → IsTypedNode registry schema new table n own
-  right_elsewhere n own other e =
-      let r = says_same n e.tree e.denotes in
-      node_stays registry schema old new table table n own e r.0 r.1 r.2.same.typing (still_named own.name.0 e.tree r.0 e.name r.2.same.name) (λ op ns h. elsewhere n op ns other h) (extends_itself table)
-
   pub still_right : IsRight registry schema (set old at item) table
-  still_right = record {
-    each = λ n own k. ⊎_elim
-        (λ here. subst (λ m. IsTypedNode registry schema new table m own) (sym here) (right_here own (subst (λ m. IsTypedNode registry schema old table m own) here (change.right.each n own k))))
-        (λ other. right_elsewhere n own other (change.right.each n own k))
-        (same_or_other n at);
-  }
+  still_right = placed_right registry schema old table at item change.right change.kept becomes_there still_named (λ own k. right_here own (change.right.each at own k))

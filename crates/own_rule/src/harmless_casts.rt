@@ -50,6 +50,8 @@ impl OptimizationRule for HarmlessCastRule {
 
     ghost related = { λ rule. HasSameRelaxed };
 
+    ghost forgets = { λ rule items table node. ⊥ };
+
     ghost replaces_plans = { λ rule. false };
 
     ghost settled_plan = { λ rule registry schema kind. true };

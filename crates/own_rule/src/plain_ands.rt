@@ -39,6 +39,8 @@ impl OptimizationRule for PlainAndRule {
 
     ghost related = { λ rule. HasSamePlain };
 
+    ghost forgets = { λ rule items table node. ⊥ };
+
     ghost replaces_plans = { λ rule. false };
 
     ghost settled_plan = { λ rule registry schema kind. true };

@@ -34,8 +34,10 @@ use Rattle.plan_arena.proofs.NumberLemmas.{taken_more}
 use Rattle.plan_arena.proofs.ItemLemmas.{held_top, tree_grown, added_denotes, length-grown, any_node, from_laws, from_top, expression_elsewhere, expression_written, grown_held, within, expression_got}
 use Rattle.plan_infer.specs.Typed.{HasKnownType}
 use Rattle.plan_coerce.specs.Rules.{is_strict_node, said}
+use Rattle.plan_coerce.specs.Kinds.{Becomes}
 use Rattle.plan_coerce.proofs.CoercedLemmas.{DenotesSame, IsAlike, node_alike_over}
-use Rattle.plan_coerce.specs.Coercion.{Operand, IsChanged, AreChanged, IsReady, IsReadyAt, AllReady}
+use Rattle.plan_coerce.proofs.KindLemmas.{node_becomes}
+use Rattle.plan_coerce.specs.Coercion.{AddsNodes, Operand, IsChanged, AreChanged, IsReady, IsReadyAt, AllReady}
 use Rattle.plan_infer.specs.declared.type_table.TypeTable.{TypeTable}
 use Rattle.plan_types.proofs.CastLemmas.{source_known}
 use Rattle.plan_types.proofs.ListLemmas.{mapped_more}
@@ -45,7 +47,7 @@ use Rattle.std.specs.List.{AllByRecursion}
 use Rattle.plan_infer.specs.declared.type_table.Inferred.{Inferred}
 use Rattle.plan_infer.specs.KeptTypes.{Keeps, KeepsEntry, IsKept, Extends, AllKept, AreOperands, IsRight, TakesTo, typed_of}
 use Rattle.plan_arena.proofs.NumberLemmas.{all_joined, all_weaker}
-use Rattle.plan_infer.proofs.TableLemmas.{children_kept, keeps_one, kept_type, kept_typing, layer_held, listed_operands, ruled_inputs, still_keeps, still_kept, kept_of, type_of, type_one}
+use Rattle.plan_infer.proofs.TableLemmas.{children_kept, extends_itself, extends_then, keeps_one, kept_type, kept_typing, layer_held, listed_operands, ruled_inputs, still_keeps, still_kept, kept_of, type_of, type_one}
 use Rattle.plan_dsl.proofs.OpLemmas.{keeps_rule}
 use Rattle.plan_dsl.proofs.SignatureLemmas.{AllBecome, IsTakenTo, makes, passes}
 
@@ -383,10 +385,33 @@ all_changed old new table inputs outputs targets i whole same c =
     let ts = ap (λ k. take k targets) (whole ∙ same) ∙ take-length targets in
     subst (λ l. AreChanged old new table inputs (numbers outputs) (map ty l)) ts (subst (λ l. AreChanged old new table l (numbers outputs) (map ty (take i targets))) xs c)
 
+-- what adding none leaves, and adding more behind others
+pub adds_nothing : (near : List AExpr → List ℕ → Type 0) (items : List AExpr) (table : TypeTable) → AddsNodes near items items table table
+adds_nothing near items table = record {
+  right = λ registry schema right. right;
+  closed = λ start roots le near closed. closed;
+  added = λ registry schema start le right strict. strict;
+  extends = extends_itself table;
+}
+
+pub adds_then : (near near' : List AExpr → List ℕ → Type 0) (old mid new : List AExpr) (table between table' : TypeTable) → Grows old mid → AddsNodes near old mid table between → AddsNodes near' mid new between table' → ((start : List AExpr) (roots : List ℕ) → length start ≤ length old → near start roots → near' start roots) → AddsNodes near old new table table'
+adds_then near near' old mid new table between table' g a b there =
+    let longer = length-grown old mid g in
+    record {
+      right = λ registry schema right. b.right registry schema (a.right registry schema right);
+      closed = λ start roots le here closed. b.closed start roots (omega (arith, le, longer)) (there start roots le here) (a.closed start roots le here closed);
+      added = λ registry schema start le right strict. b.added registry schema start (omega (arith, le, longer)) (a.right registry schema right) (a.added registry schema start le right strict);
+      extends = extends_then table between table' a.extends b.extends;
+    }
+
+-- nodes that stand over none of the old ones
+pub adds_alone : (near : List AExpr → List ℕ → Type 0) (old new : List AExpr) (table table' : TypeTable) → AddsNodes (λ start roots. Unit) old new table table' → AddsNodes near old new table table'
+adds_alone near old new table table' a = record { right = a.right; closed = λ start roots le here. a.closed start roots le tt; added = a.added; extends = a.extends }
+
 -- ---- the node over them
 
--- a node whose operands are made of the types to which it takes them says the same, and is strict where its type is
--- one of columns
+-- a node whose operands are made of the types to which it takes them says the same, comes of replacements by coercion, and
+-- is strict where its type is one of columns
 pub record Rewritten (registry : Registry) (schema : Columns) (first : ℕ) (items : List AExpr) (at : ℕ) (before : Expression) (typed : Typed) : Type 0 where
   pub op : Op
   pub inputs : List ℕ
@@ -394,6 +419,7 @@ pub record Rewritten (registry : Registry) (schema : Columns) (first : ℕ) (ite
   pub held : HoldsFrom first items at op inputs
   pub denotes : DenoteAll (HoldsFrom first items) inputs children
   pub same : IsAlike registry schema before (node op children)
+  pub becomes : Becomes registry schema before (node op children)
   pub strict : is_known typed.type ≡ true → IsStrictOver registry schema op children
 
 pub rewritten_same : (registry : Registry) (schema : Columns) (first : ℕ) (items : List AExpr) (at : ℕ) (before : Expression) (typed : Typed) → Rewritten registry schema first items at before typed → DenotesSame registry schema first items at before
@@ -455,6 +481,7 @@ module _ (registry : Registry) (schema : Columns) (old new : List AExpr) (table 
         held = (top.3, expression_written new at item there ∙ ap Some is);
         denotes = subst (DenoteAll (HoldsFrom first (set new at item)) (map (λ (o : Operand). o.changed) os)) (sym as_they_are) kept;
         same = subst (λ u. IsAlike registry schema u (node op (as_operands (types_of p.below) p.ruling.operands top.0))) (sym top.1) (node_alike_over registry schema op top.0 p.below p.children_typed p.ruling p.rules);
+        becomes = subst (λ u. Becomes registry schema u (node op (as_operands (types_of p.below) p.ruling.operands top.0))) (sym top.1) (node_becomes registry schema op top.0 p.below p.ruling p.children_typed p.rules);
         strict = λ k. operands_strict registry schema op top.0 p.below p.children_typed p.ruling p.rules (known k);
       }
 

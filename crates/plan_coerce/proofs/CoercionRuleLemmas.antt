@@ -1,9 +1,9 @@
 -- The rule of coercion: nodes that are strict, and what is put in place of others.
-use Rattle.std.proofs.Common.{◌≡◌, ◌≢◌, ◌&&◌, not, ℕ, zero, suc, None, is_some, ℤ, ◌<◌, ◌≤◌, Bool, true, false, List, [], ◌∷◌, length, map, set, Option, Some, Ok, Err, slice_get, slice_index_or, refl, sym, ap, ◌∙◌, subst, arith, zero-le, inl, ⊎_elim}
+use Rattle.std.proofs.Common.{◌≡◌, ◌≢◌, ◌&&◌, not, ℕ, zero, suc, None, is_some, ℤ, ◌<◌, ◌≤◌, Bool, true, false, List, [], ◌∷◌, length, map, set, Option, Some, Ok, Err, slice_get, slice_index_or, refl, sym, ap, ◌∙◌, subst, arith, zero-le, inl, inr, ⊎_elim}
 use Rattle.std.specs.List.{AllByRecursion}
 use Rattle.std.specs.Prelude.{MatchOption}
 use Rattle.std.proofs.Math.ListN.{length-set}
-use Rattle.std.proofs.lemmas.Bool.{and_parts, false≢true}
+use Rattle.std.proofs.lemmas.Bool.{and_from, and_parts, false≢true}
 use Rattle.plan_types.specs.Types.{Ty, Untyped, ty, is_known, same_type}
 use Rattle.plan_types.specs.declared.dtype.DataType.{DataType}
 use Rattle.plan_types.specs.Values.{Val, IntValue}
@@ -33,11 +33,13 @@ use Rattle.plan_infer.specs.declared.type_table.Inferred.{Inferred}
 use Rattle.plan_infer.specs.declared.type_table.TypeTable.{TypeTable}
 use Rattle.plan_infer.specs.KeptTypes.{Extends, HasRightTypes, IsKept, IsRight, KeepsEntry, typed_of, typings_at}
 use Rattle.plan_infer.specs.Typed.{HasType}
-use Rattle.plan_infer.proofs.TableLemmas.{children_kept, kept_typing, known_typed, layer_held, over_kept, ruled_inputs}
-use Rattle.plan_coerce.specs.Coercion.{AllStrictFrom, AreChanged, ChangesType, IsOver, IsOverOperands, KeepsStrict, TakesOperands, coerced}
-use Rattle.plan_coerce.specs.InlinedCasts.{IsTypedNode, inlined, until_gone}
+use Rattle.plan_infer.proofs.TableLemmas.{children_kept, extends_then, kept_typing, known_typed, layer_held, over_kept, ruled_inputs}
+use Rattle.plan_coerce.specs.Coercion.{AddsNodes, AllStrictFrom, AreChanged, ChangesType, IsOver, IsOverOperands, KeepsStrict, TakesOperands, coerced}
+use Rattle.plan_coerce.specs.CoercionRule.{CanReplace, ForgetsOnceTyped, IsCoercion, StaysSettled}
+use Rattle.plan_coerce.specs.InlinedCasts.{IsTypedNode, inlined, stays, until_gone}
+use Rattle.plan_coerce.specs.KindLaws.{becomes_itself}
 use Rattle.plan_coerce.specs.Reaching.{AreMadeOnce, IsClosed, IsReached, Near}
-use Rattle.plan_coerce.specs.Rules.{CanReplace, HasSameWritten, IsLike, IsReplacement, is_strict_node, said, until_settled}
+use Rattle.plan_coerce.specs.Rules.{ExtendsUnless, IsLike, IsReplacement, is_settled, is_strict_node, said, until_settled}
 use Rattle.plan_coerce.proofs.FrameLemmas.{on_frames}
 use Rattle.plan_coerce.proofs.CoercionLemmas.{not_renamed, own_literal, rewritten, plain_strict, takes_listed, under_alias}
 use Rattle.plan_coerce.proofs.OnceLemmas.{over_once}
@@ -211,7 +213,7 @@ module _ (registry : Registry) (schema : Columns) (old new : List AExpr) (table 
       (reached_near old (at ∷ []) (set new at item) (at ∷ []) n closed (root_near old at, tt) reached)
 
   -- a number that gets its type
-  pub number_replaced : (number : ℤ) → ty own.dtype ≡ Untyped number → IsClosed old [] new → (t : Expression) → Denotes (HoldsExpression old) at t → (HasType (typing registry schema t) (Untyped number) → Denotes (HoldsExpression (set new at item)) at (settled t)) → IsReplacement (HasSameWritten registry schema) (until_settled registry schema) registry schema old (set new at item) at t
+  pub number_replaced : (number : ℤ) → ty own.dtype ≡ Untyped number → IsClosed old [] new → (t : Expression) → Denotes (HoldsExpression old) at t → (HasType (typing registry schema t) (Untyped number) → Denotes (HoldsExpression (set new at item)) at (settled t)) → IsReplacement (IsCoercion registry schema) (until_settled registry schema) registry schema old (set new at item) at t
   number_replaced number is apart t d settles =
       let typed = kept_typing registry schema old table right at own keeps t d in
       let number_typed = typed ∙ ap (λ x. Ok (record { type = x; many = own.many })) is in
@@ -222,7 +224,7 @@ module _ (registry : Registry) (schema : Columns) (old new : List AExpr) (table 
       record {
         tree = settled t;
         denotes = settles (record { many = own.many; is = number_typed });
-        like = λ typed h. record { same = on_frames registry schema (settled t) (settled t) (same_itself registry schema (settled t)); relates = refl };
+        like = λ typed h. record { same = on_frames registry schema (settled t) (settled t) (same_itself registry schema (settled t)); relates = record { same = refl; becomes = becomes_itself registry schema (settled t) } };
         ill_typed = λ kind h. let differs : Ok (typed_of own) ≡ Err kind = sym typed ∙ h in cc;
         known = λ typed h. settled_known registry schema t typed h;
         falls =
@@ -238,7 +240,7 @@ module _ (registry : Registry) (schema : Columns) (old new : List AExpr) (table 
       }
 
   -- a node over operands that were made of their types
-  pub node_replaced : is_known (ty own.dtype) ≡ true → own.operands ≢ [] → (over : IsOverOperands old new table table' at item) → false ≡ same_types (types_of (typings_at table (inputs_of (expression_layer over.before)))) (map ty own.operands) → IsRight registry schema (set new at item) table' → (t : Expression) → Denotes (HoldsExpression old) at t → IsReplacement (HasSameWritten registry schema) (until_settled registry schema) registry schema old (set new at item) at t
+  pub node_replaced : is_known (ty own.dtype) ≡ true → own.operands ≢ [] → (over : IsOverOperands old new table table' at item) → false ≡ same_types (types_of (typings_at table (inputs_of (expression_layer over.before)))) (map ty own.operands) → IsRight registry schema (set new at item) table' → (t : Expression) → Denotes (HoldsExpression old) at t → IsReplacement (IsCoercion registry schema) (until_settled registry schema) registry schema old (set new at item) at t
   node_replaced known some over differs placed t d =
       let typed = kept_typing registry schema old table right at own keeps t d in
       let loose = listed_strict registry schema old table right at own keeps over.before over.got some known false differs t d in
@@ -249,7 +251,7 @@ module _ (registry : Registry) (schema : Columns) (old new : List AExpr) (table 
       record {
         tree = node r.op r.children;
         denotes = any_node 0 (set new at item) at (node r.op r.children) (r.inputs, r.held, r.denotes);
-        like = λ other h. subst (λ w. IsLike (HasSameWritten registry schema) registry schema w (node r.op r.children)) (sym stays) (record { same = on_frames registry schema t (node r.op r.children) r.same.same; relates = ap inlined r.same.casts });
+        like = λ other h. subst (λ w. IsLike (IsCoercion registry schema) registry schema w (node r.op r.children)) (sym stays) (record { same = on_frames registry schema t (node r.op r.children) r.same.same; relates = record { same = ap inlined r.same.casts; becomes = r.becomes } });
         ill_typed = λ kind h. let differs : Ok (typed_of own) ≡ Err kind = sym typed ∙ h in cc;
         known = λ other h.
             let is = ok_same (typing registry schema (node r.op r.children)) other (typed_of own) h (r.same.same.typing ∙ typed) in
@@ -314,8 +316,8 @@ two_listed (a ∷ b ∷ c ∷ rest) default e = absurd (omega (arith, e))
 
 -- what can be put in place of a node that takes its operands to other types
 module _ (old new : List AExpr) (table table' : TypeTable) (at : ℕ) (own : Inferred) (inputs made : List ℕ) (is : HasRightTypes old table) (keeps : KeepsEntry table at own) (takes : TakesOperands own) (g : Grows old new) (listed : (before : AExpr) → slice_get old at ≡ Some before → inputs ≡ inputs_of (expression_layer before)) (differs : false ≡ same_types (types_of (typings_at table inputs)) (map ty own.operands)) where
-  pub can_replace : ((other : Inferred) → KeepsEntry table at other → AreChanged old new table inputs made (map ty other.operands)) → AllByRecursion (IsKept table') made → ((registry : Registry) (schema : Columns) → IsRight registry schema old table → IsRight registry schema new table') → ((start : List AExpr) (roots : List ℕ) → length start ≤ length old → AllByRecursion (Near start roots) inputs → IsClosed start roots old → IsClosed start roots new) → ((registry : Registry) (schema : Columns) (start : ℕ) → start ≤ length old → IsRight registry schema old table → AllStrictFrom start old table → AllStrictFrom start new table') → AreMadeOnce old new inputs made → Extends table table' → (item : AExpr) → IsOver old at item made → CanReplace old new table table' at item
-  can_replace changed kept right closed added once extends item o =
+  pub can_replace : ((other : Inferred) → KeepsEntry table at other → AreChanged old new table inputs made (map ty other.operands)) → AllByRecursion (IsKept table') made → AddsNodes (λ start roots. AllByRecursion (Near start roots) inputs) old new table table' → AreMadeOnce old new inputs made → (item : AExpr) → IsOver old at item made → CanReplace old new table table' at item
+  can_replace changed kept adds once item o =
       let k : IsKept table at = record { own = own; keeps = keeps } in
       let roots = at ∷ [] in
       let here = kept_within old table at is k in
@@ -329,13 +331,45 @@ module _ (old new : List AExpr) (table table' : TypeTable) (at : ℕ) (own : Inf
         changed = λ other keeps. subst (λ ns. AreChanged old new table ns made (map ty other.operands)) ins (changed other keeps);
         kept = kept;
       } in
-      let reaches = over_near old new table table' at item is k g over (λ near. closed old roots (omega arith) (subst (AllByRecursion (Near old roots)) (sym ins) (near o.before o.got)) (closed_start old roots)) in
+      let reaches = over_near old new table table' at item is k g over (λ near. adds.closed old roots (omega arith) (subst (AllByRecursion (Near old roots)) (sym ins) (near o.before o.got)) (closed_start old roots)) in
       let apart = differs ∙ ap (λ ns. same_types (types_of (typings_at table ns)) (map ty own.operands)) ins in
-      let strict = λ (registry : Registry) (schema : Columns) (r : IsRight registry schema old table). added registry schema (length old) (omega arith) r (λ n le lt. absurd (omega (arith, le, lt))) in
-      let placed = λ (registry : Registry) (schema : Columns) (r : IsRight registry schema old table). node_placed registry schema old new table table' at item own r keeps g (right registry schema r) (strict registry schema r) reaches takes.some extends over in
+      let strict = λ (registry : Registry) (schema : Columns) (r : IsRight registry schema old table). adds.added registry schema (length old) (omega arith) r (λ n le lt. absurd (omega (arith, le, lt))) in
+      let placed = λ (registry : Registry) (schema : Columns) (r : IsRight registry schema old table). node_placed registry schema old new table table' at item own r keeps g (adds.right registry schema r) (strict registry schema r) reaches takes.some adds.extends over in
       record {
-        answer = λ registry schema t r d. node_replaced registry schema old new table table' at item own r keeps g (right registry schema r) (strict registry schema r) reaches (known_not_number registry schema old table r at own keeps takes.typed) takes.some over apart (placed registry schema r) t d;
+        answer = λ registry schema t r d. node_replaced registry schema old new table table' at item own r keeps g (adds.right registry schema r) (strict registry schema r) reaches (known_not_number registry schema old table r at own keeps takes.typed) takes.some over apart (placed registry schema r) t d;
         reaches = reaches;
         once = over_once old new at o.before item made here longer (expression_got old at o.before o.got) (ap inputs_of o.is) (expression_written new at item longer) (subst (λ ns. AreMadeOnce old new ns made) ins once);
-        placed = placed;
+        placed = λ registry schema r number. placed registry schema r;
+        right = adds.right;
+        kept = inl adds.extends;
       }
+
+-- ---- what is answered of a node
+
+pub answer_with : {T : Type 0} (P P' : Type 0) (Q Q' : T → Type 0) (answer : Option T) → MatchOption answer P Q → (P → P') → ((x : T) → Q x → Q' x) → MatchOption answer P' Q'
+answer_with P P' Q Q' None h none some = none h
+answer_with P P' Q Q' (Some x) h none some = some x h
+
+-- of a strict node, whether it stays tells whether it is settled
+pub settled_answer : (old new : List AExpr) (table between table' : TypeTable) (at : ℕ) (answer : Option AExpr) → StaysSettled (λ registry schema. said (is_strict_node registry schema) registry schema) old new table between at → MatchOption answer (StaysSettled (λ registry schema t. stays (coerced registry schema t)) new new between table' at) (λ item. CanReplace new new between table' at item) → MatchOption answer (StaysSettled is_settled old new table table' at) (λ item. CanReplace old new table table' at item)
+settled_answer old new table between table' at answer strict found =
+    answer_with _ _ _ _ answer found
+    (λ told. record {
+      is = λ registry schema t right d.
+          and_from (said (is_strict_node registry schema) registry schema t) (stays (coerced registry schema t)) (strict.is registry schema t right d)
+          (told.is registry schema t (subst (IsRight registry schema new) (sym strict.keeps) (subst (λ items. IsRight registry schema items table) (sym strict.same) right)) (subst (λ items. Denotes (HoldsExpression items) at t) (sym strict.same) d));
+      same = strict.same;
+      keeps = told.keeps ∙ strict.keeps;
+    })
+    (λ item can. subst (λ items. CanReplace items new table table' at item) strict.same (subst (λ kept. CanReplace new new kept table' at item) strict.keeps can))
+
+-- what is kept afterwards
+module _ (settled : Registry → Columns → Expression → Bool) (old new : List AExpr) (table table' : TypeTable) (at : ℕ) where
+  pub answer_right : (answer : Option AExpr) → MatchOption answer (StaysSettled settled old new table table' at) (λ item. CanReplace old new table table' at item) → (registry : Registry) (schema : Columns) → IsRight registry schema old table → IsRight registry schema new table'
+  answer_right None stays registry schema right = subst (IsRight registry schema new) (sym stays.keeps) (subst (λ items. IsRight registry schema items table) (sym stays.same) right)
+  answer_right (Some item) can registry schema right = can.right registry schema right
+
+  pub answer_keeps : (before : TypeTable) → Extends before table → (answer : Option AExpr) → MatchOption answer (StaysSettled settled old new table table' at) (λ item. CanReplace old new table table' at item) → ExtendsUnless ((answer ≢ None) × ForgetsOnceTyped old before at) before table'
+  answer_keeps before typed None stays = inl (subst (Extends before) (sym stays.keeps) typed)
+  answer_keeps before typed (Some item) can =
+      ⊎_elim (λ kept. inl (extends_then before table table' typed kept)) (λ f. inr ((λ none. cc, record { typed = table; extends = typed; forgets = f.0 }), f.1)) can.kept

@@ -1,5 +1,5 @@
 -- What the examples share.
-use Rattle.std.proofs.Common.{◌≡◌, ◌<◌, ◌≤◌, ℕ, ℤ, zero, suc, List, [], ◌∷◌, ◌++◌, length, map, slice_get, codes, pos, true, false, None, Some, Result, Ok, Err, refl, sym, subst, ap, ◌∙◌, arith, inl, inr, ⊎_elim}
+use Rattle.std.proofs.Common.{◌≡◌, ◌<◌, ◌≤◌, ◌-◌, ℕ, ℤ, Option, zero, suc, List, [], ◌∷◌, ◌++◌, length, map, slice_get, codes, pos, true, false, None, Some, Result, Ok, Err, refl, sym, subst, ap, ◌∙◌, arith, inl, inr, ⊎_elim}
 use Rattle.std.specs.List.{AllByRecursion}
 use Rattle.std.proofs.lemmas.Bool.{false≢true}
 use Rattle.plan_types.specs.Schemas.{Columns, columns, same_name}
@@ -31,15 +31,20 @@ use Rattle.plan_arena.specs.Samples.{named_twice}
 use Rattle.plan_arena.specs.Items.{HoldsExpression, HoldsPlan, expression_layer, plan_layer}
 use Rattle.plan_arena.proofs.DenotationLemmas.{denotes_one, some_same}
 use Rattle.plan_arena.proofs.ItemLemmas.{expression_laws, layer_inputs, plan_got, plan_laws, within}
+use Rattle.plan_coerce.specs.CoercionRule.{IsCoercion}
+use Rattle.plan_coerce.specs.Kinds.{cast_put}
 use Rattle.plan_coerce.specs.Optimizer.{AreRoots, DenotesLike, IsNumberRoot, IsTypedRoot}
 use Rattle.plan_coerce.specs.Reaching.{Among, AreOnce, HasNodes, HaveNodes, Near, ReachedBy}
-use Rattle.plan_coerce.specs.Rules.{IsSettledPlan, HasAcceptedInputs, HasSameWritten, IsPlanNode, IsReplacement, IsSameOnFrames, SettlesNoNumber, StandsOver, has_truth, is_settled, until_settled}
+use Rattle.plan_coerce.specs.Rules.{IsSettledPlan, HasAcceptedInputs, IsPlanNode, IsLike, IsReplacement, IsSameOnFrames, KeepsNone, SettlesNoNumber, StandsOver, has_truth, is_settled, until_settled}
 use Rattle.plan_coerce.specs.Samples.{wide, cast_of, strict_items, strict_sum, equal_items, filter_by, filters, scan_and, IsSumFound, IsSumPlaced}
 use Rattle.plan_arena.specs.Unchecked.{GoesInto, HasUncheckedSchema, KeepsOtherRules, unchecked_schema}
 use Rattle.plan_coerce.proofs.SettledLemmas.{settled_no_number}
 use Rattle.plan_arena.proofs.UncheckedLemmas.{schema_recorded_is}
+use Rattle.plan_infer.specs.declared.type_table.Inferred.{Inferred}
+use Rattle.plan_infer.specs.declared.type_table.TypeTable.{TypeTable}
+use Rattle.plan_infer.specs.KeptTypes.{KeepsEntry}
 use Rattle.plan_infer.specs.Typed.{HasKnownType}
-use Rattle.plan_infer.specs.Samples.{int32, two_columns, of_type, a, b, five, binary, sum, pair, columns_and, sum_items, a_items}
+use Rattle.plan_infer.specs.Samples.{int8, int32, two_columns, of_type, a, b, five, binary, sum, pair, columns_and, sum_items, a_items}
 
 -- a node denotes one tree
 pub one_denoted : (items : List AExpr) (n : ℕ) (t u : Expression) → Denotes (HoldsExpression items) n t → Denotes (HoldsExpression items) n u → t ≡ u
@@ -134,11 +139,17 @@ no_numbers (suc (suc zero)) number value inputs h = cc
 no_numbers (suc (suc (suc zero))) number value inputs h = cc
 no_numbers (suc (suc (suc (suc n)))) number value inputs h = cc
 
-pub sum_replaced : IsReplacement (HasSameWritten [] two_columns) (until_settled [] two_columns) [] two_columns sum_items strict_items 2 sum
+sum_coerced : IsCoercion [] two_columns sum strict_sum
+sum_coerced = record { same = refl; becomes = record { count = 1; steps = (strict_sum, inr (more wide (more b no_more), refl, inl (inl (cast_put (of_type int8) int32 refl refl refl), refl)), refl) } }
+
+pub sums_alike : IsLike (IsCoercion [] two_columns) [] two_columns sum strict_sum
+sums_alike = record { same = record { typing = refl; name = refl; meaning = λ rows is. refl }; relates = sum_coerced }
+
+pub sum_replaced : IsReplacement (IsCoercion [] two_columns) (until_settled [] two_columns) [] two_columns sum_items strict_items 2 sum
 sum_replaced = record {
   tree = strict_sum;
   denotes = strict_denotes;
-  like = λ typed is. record { same = record { typing = refl; name = refl; meaning = λ rows is. refl }; relates = refl };
+  like = λ typed is. sums_alike;
   ill_typed = λ kind is. let differs : Ok (of_type int32) ≡ Err kind = is in cc;
   known = λ typed is. known_one _ typed (record { typed = of_type int32; is = refl; known = refl }) is;
   falls = omega arith;
@@ -163,7 +174,7 @@ sum_placed = record {
   grows = record { added = cast_of 0 Int32 ∷ []; longer = refl };
   item = pair 3 Plus 1;
   is = refl;
-  answer = λ t d. subst (IsReplacement (HasSameWritten [] two_columns) (until_settled [] two_columns) [] two_columns sum_items strict_items 2) (one_denoted sum_items 2 sum t sum_denotes d) sum_replaced;
+  answer = λ t d. subst (IsReplacement (IsCoercion [] two_columns) (until_settled [] two_columns) [] two_columns sum_items strict_items 2) (one_denoted sum_items 2 sum t sum_denotes d) sum_replaced;
   numbers = λ t typed d is unknown. settled_no_number [] two_columns;
   reaches = λ n is m op inputs near h. all_near_sum inputs;
   once = λ n is t ns h once. (strict_sum, 2 ∷ 3 ∷ 0 ∷ 1 ∷ [], strict_nodes, strict_once);
@@ -331,6 +342,23 @@ truth_settled schema is kind over s =
     let d = truth_filter schema is in
     subst (λ k. has_truth [] over k ≡ true) (sym (filter_kind (filters schema) 1 (binary Eq a b) d kind over s))
     (subst (λ o. has_truth [] o (FilterKind (named (binary Eq a b))) ≡ true) (sym (filter_over (filters schema) 1 (binary Eq a b) d kind over s)) refl)
+
+-- ---- tables of one entry
+
+pub one_entry_kept : (table : TypeTable) (left own : Inferred) → table.first ≡ 2 → table.entries.items ≡ Some left ∷ [] → KeepsEntry table 2 own → left ≡ own
+one_entry_kept table left own first entries keeps =
+    let item = keeps.1 in
+    cc
+
+pub entry_kept : (table : TypeTable) (own : Inferred) → table.first ≡ 2 → table.entries.items ≡ Some own ∷ [] → KeepsEntry table 2 own
+entry_kept table own first entries = rw (first, entries) (omega arith, refl)
+
+none_listed : (n : ℕ) (own : Inferred) → slice_get (None ∷ []) n ≡ Some (Some own) → ⊥
+none_listed zero own e = cc
+none_listed (suc n) own e = cc
+
+pub no_entry_kept : (table : TypeTable) → table.first ≡ 2 → table.entries.items ≡ None ∷ [] → KeepsNone table
+no_entry_kept table first entries n k = none_listed (n - table.first) k.own (subst (λ (l : List (Option Inferred)). slice_get l (n - table.first) ≡ Some (Some k.own)) entries k.keeps.1)
 
 -- ---- numbers without a type as roots
 

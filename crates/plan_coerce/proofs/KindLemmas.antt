@@ -1,7 +1,8 @@
 -- What is written out comes of replacements of four kinds.
-use Rattle.std.proofs.Common.{◌≡◌, ℕ, ℤ, Bool, zero, suc, true, false, cond, List, [], ◌∷◌, Option, Some, None, Ok, refl, sym, ap, ◌∙◌, subst, inl, inr}
+use Rattle.std.proofs.Common.{◌≡◌, ℤ, Bool, true, false, cond, List, [], ◌∷◌, Option, Some, None, Ok, refl, sym, ap, ◌∙◌, subst, inl}
 use Rattle.std.specs.Prelude.{◌&&◌, unwrap_or}
-use Rattle.std.proofs.lemmas.Bool.{and_from, and_parts}
+use Rattle.std.proofs.lemmas.Bool.{and_from, and_parts, false≢true}
+use Rattle.plan_types.specs.CommonTypes.{type_alone}
 use Rattle.plan_types.specs.Schemas.{Columns, Name}
 use Rattle.plan_types.specs.Types.{Ty, Truth, Untyped, same_type}
 use Rattle.plan_types.specs.TypeLaws.{same_type_exact, same_type_own}
@@ -14,7 +15,7 @@ use Rattle.plan_dsl.specs.Ops.{Op, AliasOp, BinaryOp, CastOp, LiteralOp, Express
 use Rattle.plan_dsl.specs.Registry.{Registry}
 use Rattle.plan_dsl.specs.Strictness.{CanBecome, as_operand, as_operands, cast_to, changed, integer_has, number_as, number_literal}
 use Rattle.plan_dsl.specs.Trees.{Trees, node, no_more, more, AllRelated}
-use Rattle.plan_dsl.specs.Typing.{Typed, types_of, typing, typing_all}
+use Rattle.plan_dsl.specs.Typing.{Ruling, Typed, rule, types_of, typing, typing_all}
 use Rattle.plan_dsl.proofs.LiteralLemmas.{bare, becomes_literal, child_is, literal_typing, number_node, under}
 use Rattle.plan_dsl.proofs.OpLemmas.{keeps_rule}
 use Rattle.plan_dsl.proofs.SameLemmas.{typings_same}
@@ -22,67 +23,28 @@ use Rattle.plan_dsl.proofs.SignatureLemmas.{AllBecome, IsTakenTo, makes, passes}
 use Rattle.plan_dsl.proofs.TypingLemmas.{by_children, by_no_children, typed_parts}
 use Rattle.plan_coerce.specs.Coercion.{coerced, coerced_all}
 use Rattle.plan_coerce.specs.InlinedCasts.{all_inlined, cast_of, in_place_of, inlined, is_logical, written_out}
-use Rattle.plan_coerce.specs.Kinds.{AreSteps, Becomes, IsStep, IsStepAmong, cast_gone, cast_put, literal_told, number_typed}
+use Rattle.plan_coerce.specs.KindLaws.{becomes_itself, becomes_one, becomes_over, becomes_then}
+use Rattle.plan_coerce.specs.Kinds.{Becomes, cast_gone, cast_put, literal_told, number_typed}
 use Rattle.plan_coerce.proofs.InliningLemmas.{some_where}
 use Rattle.plan_coerce.proofs.NameLemmas.{all_coerced_same, fitted_typed}
-use Rattle.plan_coerce.proofs.RightLemmas.{lacks_apart}
+
+-- a type that lacks a number is another than the one that the number has alone
+pub lacks_apart : (number : ℤ) (own target : Ty) → type_alone (Untyped number) ≡ Some own → integer_has target number ≡ false → same_type own target ≡ false
+lacks_apart number own target alone lacks =
+    let has = literal_has number own alone in
+    elim (same_type own target) as (λ b. same_type own target ≡ b → b ≡ false) [
+      | true ↦ λ e. absurd (false≢true (sym lacks ∙ ap (λ t. integer_has t number) (sym (same_type_exact own target e)) ∙ and_from _ _ has.2 has.0))
+      | false ↦ λ e. refl
+    ] refl
 
 module _ (registry : Registry) (schema : Columns) where
-  -- ---- replacements one after another
-
-  becomes_itself : (t : Expression) → Becomes registry schema t t
-  becomes_itself t = record { count = 0; steps = refl }
-
-  steps_then : (n : ℕ) (t u w : Expression) → AreSteps registry schema n t u → Becomes registry schema u w → Becomes registry schema t w
-  steps_then zero t u w a b = subst (λ v. Becomes registry schema v w) a b
-  steps_then (suc n) t u w a b = let rest = steps_then n a.0 u w a.2 b in record { count = suc rest.count; steps = (a.0, a.1, rest.steps) }
-
-  becomes_then : (t u w : Expression) → Becomes registry schema t u → Becomes registry schema u w → Becomes registry schema t w
-  becomes_then t u w a b = steps_then a.count t u w a.steps b
-
-  becomes_one : (t u : Expression) → IsStep registry schema t u → Becomes registry schema t u
-  becomes_one t u s = record { count = 1; steps = (u, s, refl) }
-
-  -- ---- of one of several, and at any depth
-
-  abbrev StepsAmong : ℕ → Trees Op → Trees Op → Type 0
-  StepsAmong zero ts us = us ≡ ts
-  StepsAmong (suc n) ts us = (between : Trees Op) × IsStepAmong registry schema ts between × StepsAmong n between us
-
-  among_first : (n : ℕ) (t u : Expression) (ts : Trees Op) → AreSteps registry schema n t u → StepsAmong n (more t ts) (more u ts)
-  among_first zero t u ts a = ap (λ x. more x ts) a
-  among_first (suc n) t u ts a = (more a.0 ts, inl (a.1, refl), among_first n a.0 u ts a.2)
-
-  among_rest : (n : ℕ) (t : Expression) (ts us : Trees Op) → StepsAmong n ts us → StepsAmong n (more t ts) (more t us)
-  among_rest zero t ts us a = ap (more t) a
-  among_rest (suc n) t ts us a = (more t a.0, inr (refl, a.1), among_rest n t a.0 us a.2)
-
-  among_then : (n : ℕ) (ts us ws : Trees Op) → StepsAmong n ts us → ((m : ℕ) × StepsAmong m us ws) → (m : ℕ) × StepsAmong m ts ws
-  among_then zero ts us ws a b = subst (λ v. (m : ℕ) × StepsAmong m v ws) a b
-  among_then (suc n) ts us ws a b = let rest = among_then n a.0 us ws a.2 b in (suc rest.0, (a.0, a.1, rest.1))
-
-  all_among : (ts us : Trees Op) → AllRelated (Becomes registry schema) ts us → (n : ℕ) × StepsAmong n ts us
-  all_among no_more no_more h = (0, refl)
-  all_among (more t ts) (more u us) h =
-      let rest = all_among ts us h.1 in
-      among_then h.0.count (more t ts) (more u ts) (more u us) (among_first h.0.count t u ts h.0.steps) (rest.0, among_rest rest.0 u ts us rest.1)
-  all_among no_more (more u us) h = absurd h
-  all_among (more t ts) no_more h = absurd h
-
-  steps_over : (n : ℕ) (op : Op) (ts us : Trees Op) → StepsAmong n ts us → AreSteps registry schema n (node op ts) (node op us)
-  steps_over zero op ts us a = ap (node op) a
-  steps_over (suc n) op ts us a = (node op a.0, inr (a.0, refl, a.1), steps_over n op a.0 us a.2)
-
-  becomes_over : (op : Op) (ts us : Trees Op) → AllRelated (Becomes registry schema) ts us → Becomes registry schema (node op ts) (node op us)
-  becomes_over op ts us h = let all = all_among ts us h in record { count = all.0; steps = steps_over all.0 op ts us all.1 }
-
   -- ---- operands that are made of their types
 
   kind_typed : (number : ℤ) (type : Ty) → integer_has type number ≡ true → Becomes registry schema (number_literal (Untyped number) number) (number_literal type number)
-  kind_typed number type has = becomes_one _ _ (inl (number_typed number type has refl refl))
+  kind_typed number type has = becomes_one registry schema _ _ (inl (number_typed number type has refl refl))
 
   kind_cast : (t : Expression) (own : Typed) (target : Ty) → typing registry schema t ≡ Ok own → same_type own.type target ≡ false → Becomes registry schema t (cast_to target t)
-  kind_cast (node op ts) own target typed other = becomes_one _ _ (inl (cast_put own target typed other refl))
+  kind_cast (node op ts) own target typed other = becomes_one registry schema _ _ (inl (cast_put own target typed other refl))
 
   number_becomes : (number : ℤ) (target : Ty) → CanBecome (Untyped number) target → Becomes registry schema (number_literal (Untyped number) number) (number_as number target)
   number_becomes number target can =
@@ -94,7 +56,7 @@ module _ (registry : Registry) (schema : Columns) where
             let lit = number_literal own.0 number in
             let typed = literal_typing registry schema own.0 (IntValue number) (becomes_literal own.0 number has.1 has.0) in
             subst (λ type. Becomes registry schema (number_literal (Untyped number) number) (cast_to target (number_literal type number))) (sym (ap (λ found. unwrap_or found (Untyped number)) own.1))
-            (becomes_then _ lit _ (kind_typed number own.0 (and_from _ _ has.2 has.0)) (kind_cast lit _ target typed (lacks_apart number own.0 target own.1 e)))
+            (becomes_then registry schema _ lit _ (kind_typed number own.0 (and_from _ _ has.2 has.0)) (kind_cast lit _ target typed (lacks_apart number own.0 target own.1 e)))
       ] refl
 
   module _ (number : ℤ) (many : Bool) (target : Ty) (can : CanBecome (Untyped number) target) where
@@ -107,7 +69,7 @@ module _ (registry : Registry) (schema : Columns) where
           | bare op_is none single literal ↦
               subst (λ o. Becomes registry schema (node o children) (made (node o children))) (sym op_is) (subst (λ c. Becomes registry schema (node (LiteralOp (Untyped number) (IntValue number)) c) (made (node (LiteralOp (Untyped number) (IntValue number)) c))) (sym none) (number_becomes number target can))
           | under name tree op_is over typed ↦
-              let here = becomes_over (AliasOp name) (more tree no_more) (more (made tree) no_more) (each name tree over typed, tt) in
+              let here = becomes_over registry schema (AliasOp name) (more tree no_more) (more (made tree) no_more) (each name tree over typed, tt) in
               subst (λ o. Becomes registry schema (node o children) (made (node o children))) (sym op_is) (subst (λ c. Becomes registry schema (node (AliasOp name) c) (made (node (AliasOp name) c))) (sym over) here)
         ]
 
@@ -123,9 +85,9 @@ module _ (registry : Registry) (schema : Columns) where
   operand_becomes : (own from target : Ty) (tree : Expression) (many : Bool) → typing registry schema tree ≡ Ok (record { type = from; many = many }) → IsTakenTo own from target → Becomes registry schema tree (as_operand from target tree)
   operand_becomes own from target tree many is (passes kept owned) =
       let same = ap (same_type from) (sym kept) ∙ same_type_own from in
-      subst (λ b. Becomes registry schema tree (cond b tree (changed from target tree))) (sym same) (becomes_itself tree)
+      subst (λ b. Becomes registry schema tree (cond b tree (changed from target tree))) (sym same) (becomes_itself registry schema tree)
   operand_becomes own from target tree many is (makes can) =
-      elim (same_type from target) as (λ b. same_type from target ≡ b → Becomes registry schema tree (cond b tree (changed from target tree))) [ true ↦ λ e. becomes_itself tree | false ↦ λ e. changed_becomes from target tree many is e can ] refl
+      elim (same_type from target) as (λ b. same_type from target ≡ b → Becomes registry schema tree (cond b tree (changed from target tree))) [ true ↦ λ e. becomes_itself registry schema tree | false ↦ λ e. changed_becomes from target tree many is e can ] refl
 
   operands_become : (own : Ty) (trees : Trees Op) (typed : List Typed) (targets : List Ty) → typing_all registry schema trees ≡ Ok typed → AllBecome own (types_of typed) targets → AllRelated (Becomes registry schema) trees (as_operands (types_of typed) targets trees)
   operands_become own no_more typed targets h b =
@@ -136,6 +98,11 @@ module _ (registry : Registry) (schema : Columns) where
       by_children (λ ts. AllBecome own (types_of ts) (target ∷ targets) → AllRelated (Becomes registry schema) (more tree trees) (as_operands (types_of ts) (target ∷ targets) (more tree trees))) _ _ typed h (λ t ts first rest c.
       (operand_becomes own t.type target tree t.many first c.0, operands_become own trees ts targets rest c.1)) b
 
+  -- so does a node over them
+  pub node_becomes : (op : Op) (trees : Trees Op) (typed : List Typed) (ruling : Ruling) → typing_all registry schema trees ≡ Ok typed → rule registry schema op typed ≡ Ok ruling → Becomes registry schema (node op trees) (node op (as_operands (types_of typed) ruling.operands trees))
+  node_becomes op trees typed ruling h rules =
+      becomes_over registry schema op trees _ (operands_become ruling.own.type trees typed ruling.operands h (keeps_rule registry schema op typed ruling rules).becomes)
+
   -- ---- with every cast written out
 
   mutual
@@ -144,9 +111,8 @@ module _ (registry : Registry) (schema : Columns) where
         let p = typed_parts registry schema op ts typed h in
         let us = coerced_all registry schema ts in
         let there = typings_same registry schema ts us (all_coerced_same registry schema ts p.below p.children_typed) ∙ p.children_typed in
-        let made = operands_become p.ruling.own.type us p.below p.ruling.operands there (keeps_rule registry schema op p.below p.ruling p.rules).becomes in
         subst (λ os. Becomes registry schema (node op ts) (node op os)) (sym (fitted_typed registry schema op ts us p.below p.ruling p.children_typed p.rules))
-        (becomes_then (node op ts) (node op us) _ (becomes_over op ts us (all_coerced_become ts p.below p.children_typed)) (becomes_over op us _ made))
+        (becomes_then registry schema (node op ts) (node op us) _ (becomes_over registry schema op ts us (all_coerced_become ts p.below p.children_typed)) (node_becomes op us p.below p.ruling there p.rules))
 
     all_coerced_become : (trees : Trees Op) (typed : List Typed) → typing_all registry schema trees ≡ Ok typed → AllRelated (Becomes registry schema) trees (coerced_all registry schema trees)
     all_coerced_become no_more typed h = tt
@@ -156,23 +122,23 @@ module _ (registry : Registry) (schema : Columns) where
   -- ---- casts that go
 
   cast_becomes : (target : Ty) (options : CastOptions) (x e : Expression) → cast_of target options x ≡ Some e → Becomes registry schema (node (CastOp target options) (more x no_more)) e
-  cast_becomes target options (node (LiteralOp from value) no_more) e h = becomes_one _ _ (inl (literal_told from target value options refl h))
+  cast_becomes target options (node (LiteralOp from value) no_more) e h = becomes_one registry schema _ _ (inl (literal_told from target value options refl h))
   cast_becomes target options (node (BinaryOp operator) operands) e h =
       let s = some_where (is_logical operator && same_type Truth target) (node (BinaryOp operator) operands) e h in
       let parts = and_parts (is_logical operator) (same_type Truth target) s.0 in
       let truth : Truth ≡ target = same_type_exact Truth target parts.1 in
-      becomes_one _ _ (inl (cast_gone options operator operands parts.0 (ap (λ t. node (CastOp t options) (more (node (BinaryOp operator) operands) no_more)) (sym truth)) s.1))
+      becomes_one registry schema _ _ (inl (cast_gone options operator operands parts.0 (ap (λ t. node (CastOp t options) (more (node (BinaryOp operator) operands) no_more)) (sym truth)) s.1))
   cast_becomes target options (node op operands) e h = cc
 
   placed_becomes : (op : Op) (us : Trees Op) (found : Option Expression) → in_place_of op us ≡ found → Becomes registry schema (node op us) (unwrap_or found (node op us))
-  placed_becomes op us None is = becomes_itself (node op us)
+  placed_becomes op us None is = becomes_itself registry schema (node op us)
   placed_becomes (CastOp target options) (more x no_more) (Some e) is = cast_becomes target options x e is
   placed_becomes op us (Some e) is = cc
 
   mutual
     inlined_becomes : (tree : Expression) → Becomes registry schema tree (inlined tree)
     inlined_becomes (node op ts) =
-        becomes_then (node op ts) (node op (all_inlined ts)) _ (becomes_over op ts (all_inlined ts) (all_inlined_become ts)) (placed_becomes op (all_inlined ts) (in_place_of op (all_inlined ts)) refl)
+        becomes_then registry schema (node op ts) (node op (all_inlined ts)) _ (becomes_over registry schema op ts (all_inlined ts) (all_inlined_become ts)) (placed_becomes op (all_inlined ts) (in_place_of op (all_inlined ts)) refl)
 
     all_inlined_become : (trees : Trees Op) → AllRelated (Becomes registry schema) trees (all_inlined trees)
     all_inlined_become no_more = tt
@@ -180,4 +146,4 @@ module _ (registry : Registry) (schema : Columns) where
 
   -- both
   pub written_becomes : (tree : Expression) (typed : Typed) → typing registry schema tree ≡ Ok typed → Becomes registry schema tree (written_out registry schema tree)
-  written_becomes tree typed h = becomes_then tree (coerced registry schema tree) _ (coerced_becomes tree typed h) (inlined_becomes (coerced registry schema tree))
+  written_becomes tree typed h = becomes_then registry schema tree (coerced registry schema tree) _ (coerced_becomes tree typed h) (inlined_becomes (coerced registry schema tree))

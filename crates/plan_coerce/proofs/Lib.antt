@@ -15,6 +15,7 @@ pub mod NearLemmas
 pub mod NumberRootLemmas
 pub mod OnLiterals
 pub mod OnceLemmas
+pub mod PlacedRightLemmas
 pub mod PlanNodeLemmas
 pub mod ReachLemmas
 pub mod RightLemmas

@@ -1,15 +1,13 @@
 -- What is kept by node stays right as coercion adds nodes and writes one.
-use Rattle.std.proofs.Common.{reverse, ◌≡◌, ◌≢◌, ◌⊎◌, ℕ, ℤ, ◌<◌, List, [], ◌∷◌, ◌++◌, length, map, set, true, false, cond, Some, Ok, Err, slice_get, refl, sym, ap, ◌∙◌, subst, arith, zero-le, inl, inr, ⊎_elim, length-append}
+use Rattle.std.proofs.Common.{reverse, ◌≡◌, ◌≢◌, ◌⊎◌, ℕ, ◌<◌, List, [], ◌∷◌, ◌++◌, length, map, set, true, false, cond, Some, Ok, Err, slice_get, refl, sym, ap, ◌∙◌, subst, arith, zero-le, inl, inr, ⊎_elim, length-append}
 use Rattle.std.specs.List.{AllByRecursion}
 use Rattle.std.proofs.lemmas.List.{length-map, map-append}
 use Rattle.std.proofs.lemmas.Option.{slice_get-get_or}
 use Rattle.plan_types.proofs.ListLemmas.{slice_get-append}
-use Rattle.std.proofs.lemmas.Bool.{and_from, cases_lt, false≢true}
-use Rattle.plan_types.specs.Types.{Ty, Untyped, ty, is_known, same_type}
-use Rattle.plan_types.specs.TypeLaws.{same_type_exact}
-use Rattle.plan_types.specs.CommonTypes.{type_alone}
+use Rattle.std.proofs.lemmas.Bool.{cases_lt}
+use Rattle.plan_types.specs.Types.{Ty, ty, is_known, same_type}
 use Rattle.plan_types.specs.Casts.{can_cast}
-use Rattle.plan_types.proofs.CommonLemmas.{alone_itself, literal_has}
+use Rattle.plan_types.proofs.CommonLemmas.{alone_itself}
 use Rattle.plan_types.specs.declared.error.ErrorKind.TheVariants.{InvalidOperation}
 use Rattle.plan_types.specs.Schemas.{Name, Columns}
 use Rattle.plan_types.specs.declared.dtype.DataType.{DataType}
@@ -21,7 +19,7 @@ use Rattle.plan_dsl.specs.Names.{Label, label_of}
 use Rattle.plan_dsl.specs.Trees.{node, no_more, more}
 use Rattle.plan_dsl.specs.Ops.{Op, CastOp, AliasOp, Expression}
 use Rattle.plan_dsl.specs.Literals.{literal_op, literal_type, literal_value, is_literal}
-use Rattle.plan_dsl.specs.Strictness.{as_operand, integer_has}
+use Rattle.plan_dsl.specs.Strictness.{as_operand}
 use Rattle.plan_dsl.specs.Typing.{Ruling, Typed, aliased, literal_taken, rule, typed_to, types_of, typing}
 use Rattle.plan_dsl.proofs.TypingLemmas.{ok_same}
 use Rattle.plan_dsl.proofs.CastLemmas.{operand_made}
@@ -262,12 +260,3 @@ cast_changes table n target own from keeps apart to options k is =
     let type : target ≡ to = cc in
     let input : n ≡ k = cc in
     (from, subst (λ j. KeepsEntry table j from) input keeps, subst (λ t. same_type (ty from.dtype) t ≡ false) type apart)
-
--- a type that lacks a number is another than the one that the number has alone
-pub lacks_apart : (number : ℤ) (own target : Ty) → type_alone (Untyped number) ≡ Some own → integer_has target number ≡ false → same_type own target ≡ false
-lacks_apart number own target alone lacks =
-    let has = literal_has number own alone in
-    elim (same_type own target) as (λ b. same_type own target ≡ b → b ≡ false) [
-      | true ↦ λ e. absurd (false≢true (sym lacks ∙ ap (λ t. integer_has t number) (sym (same_type_exact own target e)) ∙ and_from _ _ has.2 has.0))
-      | false ↦ λ e. refl
-    ] refl

@@ -21,7 +21,8 @@ use Rattle.plan_coerce.specs.Coercion.{KeepsBelow, coerced}
 use Rattle.plan_coerce.specs.InlinedCasts.{inlined, stays, written_out}
 use Rattle.plan_coerce.specs.Optimizer.{AreSettled, AreTrees, AreTypedRoots, AreWrittenOut, DenotesSettled, IsSettled, IsTypedRoot, IsWrittenOut, StaysApart, StaysLike}
 use Rattle.plan_coerce.specs.Reaching.{IsReached, ReachedBy}
-use Rattle.plan_coerce.specs.Rules.{HasSameWritten, is_settled, is_strict_node, said}
+use Rattle.plan_coerce.specs.CoercionRule.{IsCoercion}
+use Rattle.plan_coerce.specs.Rules.{is_settled, is_strict_node, said}
 use Rattle.plan_coerce.proofs.CoercedLemmas.{strict_coerced}
 use Rattle.plan_coerce.proofs.NameLemmas.{written_same}
 use Rattle.plan_coerce.proofs.ReachLemmas.{among_all}
@@ -62,13 +63,13 @@ module _ (registry : Registry) (schema : Columns) where
 
   module _ (old new : List AExpr) where
     -- a root that ends settled denotes what it did, written out
-    root_written : (n : ℕ) → StaysLike (HasSameWritten registry schema) registry schema old new → DenotesSettled (is_settled registry schema) new n → (t : Expression) → Denotes (HoldsExpression old) n t → IsWrittenOut registry schema new n t
+    root_written : (n : ℕ) → StaysLike (IsCoercion registry schema) registry schema old new → DenotesSettled (is_settled registry schema) new n → (t : Expression) → Denotes (HoldsExpression old) n t → IsWrittenOut registry schema new n t
     root_written n like ended t d =
         let b = like n t d in
         let last = denotes_one (shape_of (map expression_layer new)) (HoldsExpression new) (expression_laws new) n ended.tree b.tree ended.denotes b.denotes in
         let each = subst (IsSettled (is_settled registry schema)) last ended.each in
         let strict = settled_strict b.tree each in
-        let written : b.tree ≡ written_out registry schema t = sym (settled_written b.tree each) ∙ b.like.relates in
+        let written : b.tree ≡ written_out registry schema t = sym (settled_written b.tree each) ∙ b.like.relates.same in
         let typed = strict_typed b.tree strict in
         record {
           tree = b.tree;
@@ -78,7 +79,7 @@ module _ (registry : Registry) (schema : Columns) where
           is = written;
         }
 
-    all_written : (roots : List ℕ) → StaysLike (HasSameWritten registry schema) registry schema old new → AllByRecursion (DenotesSettled (is_settled registry schema) new) roots → AllByRecursion (λ n. (t : Expression) → Denotes (HoldsExpression old) n t → IsWrittenOut registry schema new n t) roots
+    all_written : (roots : List ℕ) → StaysLike (IsCoercion registry schema) registry schema old new → AllByRecursion (DenotesSettled (is_settled registry schema) new) roots → AllByRecursion (λ n. (t : Expression) → Denotes (HoldsExpression old) n t → IsWrittenOut registry schema new n t) roots
     all_written [] like ended = tt
     all_written (n ∷ ns) like ended = (root_written n like ended.0, all_written ns like ended.1)
 
@@ -116,5 +117,5 @@ module _ (registry : Registry) (schema : Columns) where
         apart n op inputs (λ (r : IsReached old roots n). lower (known_reach roots known n r)) held
 
     -- and the roots are written out
-    pub written_roots : (new : List AExpr) (roots : List ℕ) → AllByRecursion (DenotesKnown registry schema first old) roots → StaysLike (HasSameWritten registry schema) registry schema old new → AllByRecursion (DenotesSettled (is_settled registry schema) new) roots → StaysApart old new roots → AreWrittenOut registry schema first old new roots
+    pub written_roots : (new : List AExpr) (roots : List ℕ) → AllByRecursion (DenotesKnown registry schema first old) roots → StaysLike (IsCoercion registry schema) registry schema old new → AllByRecursion (DenotesSettled (is_settled registry schema) new) roots → StaysApart old new roots → AreWrittenOut registry schema first old new roots
     written_roots new roots known like settled apart = record { below = known_below new roots known apart; each = all_written old new roots like settled }

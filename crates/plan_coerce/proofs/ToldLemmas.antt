@@ -45,11 +45,16 @@ use Rattle.plan_coerce.specs.CoercedLaws.{inlined_renamed}
 use Rattle.plan_coerce.specs.Coercion.{ChangesType, coerced, coerced_all, fitted}
 use Rattle.plan_coerce.specs.Optimizer.{AreSettled, IsSettled}
 use Rattle.plan_coerce.specs.Reaching.{Among, AreOnce, HasNodes, HaveNodes, IsClosed, Near, StaysOnce}
-use Rattle.plan_coerce.specs.Rules.{HasSameWritten, IsLike, IsReplacement, is_strict_node, said, until_settled}
-use Rattle.plan_coerce.specs.InlinedCasts.{IsTypedNode, LeadsTo, LeadsToLogical, all_inlined, cast_of, in_place_of, inlined, is_cast, is_cast_op, is_logical, is_operator, is_told, is_told_top, literal_cast, stays, until_gone, written_out}
+use Rattle.plan_coerce.specs.KindLaws.{becomes_itself, becomes_one, becomes_over, becomes_then}
+use Rattle.plan_coerce.specs.Kinds.{Becomes, cast_gone}
+use Rattle.plan_coerce.specs.Rules.{IsLike, IsReplacement, is_strict_node, said, until_settled}
+use Rattle.plan_coerce.specs.CoercionRule.{IsCoercion}
+use Rattle.plan_coerce.specs.InlinedCasts.{IsTypedNode, all_inlined, cast_of, in_place_of, inlined, is_cast, is_cast_op, is_logical, is_operator, is_told, is_told_top, literal_cast, stays, until_gone, written_out}
+use Rattle.plan_coerce.specs.ToldCasts.{LeadsTo, LeadsToLogical}
 use Rattle.plan_coerce.proofs.CoercedLemmas.{bare_by}
 use Rattle.plan_coerce.proofs.FrameLemmas.{on_frames}
 use Rattle.plan_coerce.proofs.InliningLemmas.{gives_literal, literal_strict, logical_truth}
+use Rattle.plan_coerce.proofs.KindLemmas.{written_becomes}
 use Rattle.plan_coerce.proofs.NameLemmas.{fitted_typed, written_same}
 use Rattle.plan_coerce.proofs.SettledLemmas.{known_settled, literal_typed, number_settled, own_number}
 use Rattle.plan_coerce.proofs.OnceLemmas.{among_front, once_front, all_nodes_unwritten}
@@ -115,7 +120,7 @@ mutual
 
 module _ (items : List AExpr) where
   -- it is reached
-  leads_near : (at : ℕ) (n : ℕ) (t : Expression) (m : ℕ) (u : Expression) → Near items (at ∷ []) n → LeadsTo items n t m u → Near items (at ∷ []) m
+  pub leads_near : (at : ℕ) (n : ℕ) (t : Expression) (m : ℕ) (u : Expression) → Near items (at ∷ []) n → LeadsTo items n t m u → Near items (at ∷ []) m
   leads_near at n (node op (more x no_more)) m u near l =
       ⊎_elim (λ h. subst (Near items (at ∷ [])) h.0 near) (λ h. leads_near at h.0 x m u (closed_start items (at ∷ []) n op (h.0 ∷ []) near h.1).0 h.2) l
   leads_near at n (node op no_more) m u near l = subst (Near items (at ∷ [])) l.0 near
@@ -259,6 +264,10 @@ module _ (registry : Registry) (schema : Columns) where
       typed = l.typed;
       has = l.has;
       is = logical_written l.operator l.operands l.is l.logical truth;
+      becomes =
+          let u = node (BinaryOp l.operator) l.operands in
+          let was = ap (λ t. node (CastOp t options) (more u no_more)) (sym (same_type_exact Truth target truth)) in
+          becomes_then registry schema (over x) (over u) u (becomes_over registry schema (CastOp target options) (more x no_more) (more u no_more) (l.becomes, tt)) (becomes_one registry schema (over u) u (inl (cast_gone options l.operator l.operands l.logical was refl)));
     }
 
 -- a type other than that of truth values
@@ -318,11 +327,11 @@ module _ (registry : Registry) (schema : Columns) (items : List AExpr) (at : ℕ
   pub put_closed : IsClosed items (at ∷ []) (set items at item)
   put_closed = closed_put items (at ∷ []) items at item here near (closed_start items (at ∷ []))
 
-  pub put_replaces : (tree : Expression) → Denotes (HoldsExpression (set items at item)) at tree → written_out registry schema tree ≡ written_out registry schema (node op ts) → until_settled registry schema tree < until_settled registry schema (node op ts) → ((typed : Typed) → typing registry schema tree ≡ Ok typed → is_known typed.type ≡ true) → IsSame registry schema (node op ts) tree → IsReplacement (HasSameWritten registry schema) (until_settled registry schema) registry schema items (set items at item) at (node op ts)
+  pub put_replaces : (tree : Expression) → Denotes (HoldsExpression (set items at item)) at tree → IsCoercion registry schema (node op ts) tree → until_settled registry schema tree < until_settled registry schema (node op ts) → ((typed : Typed) → typing registry schema tree ≡ Ok typed → is_known typed.type ≡ true) → IsSame registry schema (node op ts) tree → IsReplacement (IsCoercion registry schema) (until_settled registry schema) registry schema items (set items at item) at (node op ts)
   put_replaces tree there same falls known says = record {
     tree = tree;
     denotes = there;
-    like = λ typed h. subst (λ t. IsLike (HasSameWritten registry schema) registry schema t tree) (sym (cast_settled op ts cast)) (record { same = on_frames registry schema (node op ts) tree says; relates = same });
+    like = λ typed h. subst (λ t. IsLike (IsCoercion registry schema) registry schema t tree) (sym (cast_settled op ts cast)) (record { same = on_frames registry schema (node op ts) tree says; relates = same });
     ill_typed = λ kind h. let differs : Ok own ≡ Err kind = sym has ∙ h in cc;
     known = known;
     falls = falls;
@@ -368,7 +377,7 @@ pub leaf_coerced : (registry : Registry) (schema : Columns) (op : Op) → coerce
 leaf_coerced registry schema op = ap (node op) (bare_by (rule registry schema op []) [])
 
 module _ (registry : Registry) (schema : Columns) (items : List AExpr) (at : ℕ) (op : Op) (ts : Trees Op) (own : Typed) (has : typing registry schema (node op ts) ≡ Ok own) (strict : said (is_strict_node registry schema) registry schema (node op ts) ≡ true) (d : Denotes (HoldsExpression items) at (node op ts)) (cast : is_cast_op op ≡ true) where
-  pub literal_replaces : (value : LiteralValue) → written_out registry schema (node op ts) ≡ node (literal_op value) no_more → IsReplacement (HasSameWritten registry schema) (until_settled registry schema) registry schema items (set items at (LiteralItem value)) at (node op ts)
+  pub literal_replaces : (value : LiteralValue) → written_out registry schema (node op ts) ≡ node (literal_op value) no_more → IsReplacement (IsCoercion registry schema) (until_settled registry schema) registry schema items (set items at (LiteralItem value)) at (node op ts)
   literal_replaces value is =
       let tree = node (literal_op value) no_more in
       let us = fitted registry schema op (typing_all registry schema ts) (coerced_all registry schema ts) in
@@ -379,7 +388,7 @@ module _ (registry : Registry) (schema : Columns) (items : List AExpr) (at : ℕ
       let after = strict_turns registry schema tree alone ∙ none_gone (coerced registry schema tree) (uncast_stays registry schema tree refl) in
       put_replaces registry schema items at (LiteralItem value) op ts own has d cast tt tree
       ([], expression_written items at (LiteralItem value) (within items at (node op ts) d), tt)
-      (ap inlined (leaf_coerced registry schema (literal_op value)) ∙ sym is)
+      (record { same = ap inlined (leaf_coerced registry schema (literal_op value)) ∙ sym is; becomes = subst (Becomes registry schema (node op ts)) is (written_becomes registry schema (node op ts) own has) })
       (omega (arith, before, after))
       (bare_known registry schema (literal_type value) (literal_value value) fits.0)
       (subst (IsSame registry schema (node op ts)) is (written_same registry schema (node op ts) own has))
@@ -422,7 +431,7 @@ module _ (registry : Registry) (schema : Columns) (items : List AExpr) (at : ℕ
   pub logical_closed : IsClosed items (at ∷ []) (set items at item)
   logical_closed = closed_put items (at ∷ []) items at item inside inputs_near_there (closed_start items (at ∷ []))
 
-  pub logical_replaces : (own : Typed) → typing registry schema (node op ts) ≡ Ok own → said (is_strict_node registry schema) registry schema (node op ts) ≡ true → IsReplacement (HasSameWritten registry schema) (until_settled registry schema) registry schema items (set items at item) at (node op ts)
+  pub logical_replaces : (own : Typed) → typing registry schema (node op ts) ≡ Ok own → said (is_strict_node registry schema) registry schema (node op ts) ≡ true → IsReplacement (IsCoercion registry schema) (until_settled registry schema) registry schema items (set items at item) at (node op ts)
   logical_replaces own has strict =
       let u = node (BinaryOp l.operator) l.operands in
       let shallow = leads_depth items at (node op ts) m u l.leads in
@@ -431,7 +440,7 @@ module _ (registry : Registry) (schema : Columns) (items : List AExpr) (at : ℕ
       let after = uncast_turns registry schema u refl in
       put_replaces registry schema items at item op ts own has d cast inputs_near_there u
       (l.denotes.0, item_held (BinaryOp l.operator) l.denotes.0 l.denotes.1, below)
-      (sym l.is)
+      (record { same = sym l.is; becomes = l.becomes })
       (omega (arith, before, after))
       (operator_known registry schema l.operator l.operands l.logical)
       (same_then registry schema (node op ts) (written_out registry schema (node op ts)) u (written_same registry schema (node op ts) own has) (subst (λ w. IsSame registry schema w u) (sym l.is) (turned registry schema u (written_out registry schema u) (written_same registry schema u l.typed l.has))))
@@ -498,6 +507,7 @@ module _ (registry : Registry) (schema : Columns) (items : List AExpr) (n : ℕ)
         typed = typed;
         has = sym (ap (typing registry schema) top.1) ∙ has;
         is = ap (written_out registry schema) top.1;
+        becomes = subst (Becomes registry schema t) top.1 (becomes_itself registry schema t);
       }
 
   -- of a cast, from what is found under it

@@ -15,7 +15,7 @@ use Rattle.plan_dsl.specs.Trees.{Trees, node, no_more, more, AllRelated}
 use Rattle.plan_dsl.specs.Ops.{Op, Expression}
 use Rattle.plan_dsl.specs.Typing.{Typed, typing, typing_all}
 use Rattle.plan_dsl.proofs.SameLemmas.{same_itself}
-use Rattle.plan_dsl.proofs.TypingLemmas.{by_children, typed_parts}
+use Rattle.plan_dsl.proofs.TypingLemmas.{by_children, ok_same, typed_parts}
 use Rattle.plan_arena.specs.declared.aexpr.AExpr.{AExpr}
 use Rattle.plan_arena.specs.Denotation.{Denotes, DenoteAll, DenotesTree}
 use Rattle.plan_arena.specs.Layers.{shape_of}
@@ -25,12 +25,12 @@ use Rattle.plan_arena.proofs.ItemLemmas.{expression_laws, grown_held, length-gro
 use Rattle.plan_arena.proofs.NumberLemmas.{all_joined, all_reversed, all_weaker}
 use Rattle.plan_coerce.specs.Optimizer.{AreSettled, AreTypedRoots, DenotesLike, DenotesSettled, IsCoercionRefusal, IsSettled, IsTypedRoot, StaysFinite, StaysLike}
 use Rattle.plan_coerce.specs.Reaching.{Among, IsClosed, StaysOnce}
-use Rattle.plan_coerce.specs.Rules.{IsCongruent, IsLike, IsReplacement, IsSteady, IsTransitive, KeepsNumber, SettlesNoNumber}
+use Rattle.plan_coerce.specs.Rules.{ExtendsUnless, IsCongruent, IsLike, IsReplacement, IsSteady, IsTransitive, KeepsNone, KeepsNumber, NeverForgets, SettlesNoNumber}
 use Rattle.plan_infer.specs.declared.type_table.Inferred.{Inferred}
 use Rattle.plan_infer.specs.declared.type_table.TypeTable.{TypeTable}
-use Rattle.plan_infer.specs.KeptTypes.{IsKept, KeepsEntry}
-use Rattle.plan_infer.proofs.TableLemmas.{keeps_one}
-use Rattle.plan_coerce.specs.Turns.{IsFound, IsPlaced, IsStopped, IsTurn, finds, places}
+use Rattle.plan_infer.specs.KeptTypes.{Extends, IsKept, IsRight, KeepsEntry, typed_of}
+use Rattle.plan_infer.proofs.TableLemmas.{keeps_one, kept_typing}
+use Rattle.plan_coerce.specs.Turns.{IsFound, IsPlaced, IsStopped, IsTurn, TurnKeeps, finds, places}
 use Rattle.plan_coerce.proofs.CoercionLemmas.{written_elsewhere}
 use Rattle.plan_coerce.proofs.FrameLemmas.{frames_then, node_on_frames, on_frames}
 use Rattle.plan_coerce.proofs.OnceLemmas.{among_back, among_front}
@@ -371,3 +371,27 @@ pub kept_number : (table : TypeTable) (n : ℕ) (own : Inferred) (number : Optio
 kept_number table n own None b keeps e h =
     (λ t. absurd (false≢true (sym e ∙ t)), λ k. absurd (h k.number (ap (λ (o : Inferred). ty o.dtype) (keeps_one table n own k.own keeps k.keeps) ∙ k.is)))
 kept_number table n own (Some k) b keeps e h = (λ t. record { own = own; number = k; keeps = keeps; is = h }, λ k. e)
+
+-- ---- what is kept after a turn
+
+-- one that places an item
+pub placed_keeps : (forgets : List AExpr → TypeTable → ℕ → Type 0) (is_settled : Expression → Bool) (registry : Registry) (schema : Columns) (old grown : List AExpr) (table between table' : TypeTable) (at : ℕ) (answer : Option AExpr) (item : AExpr) → answer ≡ Some item → Grows old grown → IsRight registry schema grown between → ExtendsUnless ((answer ≢ None) × forgets old table at) table between → ((t : Expression) (typed : Typed) → answer ≢ None → Denotes (HoldsExpression old) at t → typing registry schema t ≡ Ok typed → is_known typed.type ≡ false → SettlesNoNumber is_settled registry schema) → DenotesTree (HoldsExpression old) at → (table' ≡ between) ⊎ (KeepsNumber between at × KeepsNone table') → TurnKeeps forgets is_settled registry schema old at table table'
+placed_keeps forgets is_settled registry schema old grown table between table' at answer item is g right extended numbers tree put never =
+    let some : answer ≢ None = λ none. let differs : Some item ≡ None = sym is ∙ none in cc in
+    let extends = ⊎_elim (λ e. e) (λ f. absurd (never old table at f.0.1)) extended in
+    ⊎_elim
+    (λ same. inl (subst (Extends table) (sym same) extends))
+    (λ cleared.
+    let k = cleared.0 in
+    let says : (t : Expression) → Denotes (HoldsExpression old) at t → typing registry schema t ≡ Ok (typed_of k.own) = λ t d. kept_typing registry schema grown between right at k.own k.keeps t (kept (HoldsExpression old) (HoldsExpression grown) (grown_held old grown g) at t d) in
+    let unknown : is_known (typed_of k.own).type ≡ false = ap is_known k.is in
+    inr (record {
+      settles = numbers tree.tree (typed_of k.own) some tree.denotes (says tree.tree tree.denotes) unknown;
+      unknown = λ t typed d h. ap (λ (x : Typed). is_known x.type) (ok_same (typing registry schema t) typed (typed_of k.own) h (says t d)) ∙ unknown;
+    }))
+    put
+
+-- at a typed root none of a number without a type is replaced
+pub typed_keeps : (forgets : List AExpr → TypeTable → ℕ → Type 0) (is_settled : Expression → Bool) (registry : Registry) (schema : Columns) (items : List AExpr) (table table' : TypeTable) (at : ℕ) → NeverForgets forgets → IsTypedRoot is_settled registry schema items at → TurnKeeps forgets is_settled registry schema items at table table' → Extends table table'
+typed_keeps forgets is_settled registry schema items table table' at never root turn =
+    ⊎_elim (λ extends. extends) (λ n. absurd (false≢true (sym (n.unknown root.tree root.typed root.denotes root.is) ∙ root.known n.settles))) (turn never)

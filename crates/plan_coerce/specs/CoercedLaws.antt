@@ -16,6 +16,9 @@ use Rattle.plan_dsl.specs.Strictness.{as_operand, as_operands, changed, is_stric
 use Rattle.plan_dsl.specs.Trees.{Trees, node, no_more, more, AllRelated}
 use Rattle.plan_dsl.specs.Typing.{Ruling, Typed, rule, types_of, typing_all}
 use Rattle.plan_coerce.specs.Coercion.{coerced, coerced_all, fitted, fitted_by}
+use Rattle.plan_coerce.specs.CoercionRule.{IsCoercion}
+use Rattle.plan_coerce.specs.KindLaws.{becomes_over, becomes_then}
+use Rattle.plan_coerce.specs.Kinds.{Becomes}
 use Rattle.plan_coerce.specs.InlinedCasts.{all_inlined, cast_of, converted, in_place_of, inlined, is_logical, is_operator, literal_given, literal_with, stays, until_gone, written_out}
 use Rattle.plan_coerce.specs.Rules.{HasSameWritten, IsCongruent, IsLike, IsSteady, IsTransitive, is_settled, is_strict_node, said, until_settled}
 use Rattle.plan_coerce.specs.RuleLaws.{like_typings}
@@ -78,30 +81,49 @@ module _ (registry : Registry) (schema : Columns) where
   fitted_inlined op (Err kind) xs ys h = h
   fitted_inlined op (Ok typed) xs ys h = fitted_by_inlined (rule registry schema op typed) (types_of typed) xs ys h
 
-  -- ---- children that are one once they are written out
+-- ---- children that are one once they are written out, and maybe more
 
-  like_written : (ts us : Trees Op) → AllRelated (IsLike (HasSameWritten registry schema) registry schema) ts us → all_inlined (coerced_all registry schema us) ≡ all_inlined (coerced_all registry schema ts)
+module _ (related : Expression → Expression → Type 0) (registry : Registry) (schema : Columns) (written : (t u : Expression) → related t u → HasSameWritten registry schema t u) where
+  like_written : (ts us : Trees Op) → AllRelated (IsLike related registry schema) ts us → all_inlined (coerced_all registry schema us) ≡ all_inlined (coerced_all registry schema ts)
   like_written no_more no_more h = refl
   like_written (more t ts) (more u us) h =
-      ap (λ x. more x (all_inlined (coerced_all registry schema us))) h.0.relates ∙ ap (more (written_out registry schema t)) (like_written ts us h.1)
+      ap (λ x. more x (all_inlined (coerced_all registry schema us))) (written t u h.0.relates) ∙ ap (more (written_out registry schema t)) (like_written ts us h.1)
   like_written no_more (more u us) h = absurd h
   like_written (more t ts) no_more h = absurd h
 
-  same_over : (op : Op) (ts us : Trees Op) → AllRelated (IsLike (HasSameWritten registry schema) registry schema) ts us → all_inlined (fitted registry schema op (typing_all registry schema us) (coerced_all registry schema us)) ≡ all_inlined (fitted registry schema op (typing_all registry schema ts) (coerced_all registry schema ts))
+  same_over : (op : Op) (ts us : Trees Op) → AllRelated (IsLike related registry schema) ts us → all_inlined (fitted registry schema op (typing_all registry schema us) (coerced_all registry schema us)) ≡ all_inlined (fitted registry schema op (typing_all registry schema ts) (coerced_all registry schema ts))
   same_over op ts us h =
-      ap (λ r. all_inlined (fitted registry schema op r (coerced_all registry schema us))) (like_typings (HasSameWritten registry schema) registry schema ts us h)
-      ∙ fitted_inlined op (typing_all registry schema ts) (coerced_all registry schema us) (coerced_all registry schema ts) (like_written ts us h)
+      ap (λ r. all_inlined (fitted registry schema op r (coerced_all registry schema us))) (like_typings related registry schema ts us h)
+      ∙ fitted_inlined registry schema op (typing_all registry schema ts) (coerced_all registry schema us) (coerced_all registry schema ts) (like_written ts us h)
 
-pub same_written_congruent : (registry : Registry) (schema : Columns) → IsCongruent (HasSameWritten registry schema) registry schema
-same_written_congruent registry schema op ts us h = ap (λ l. unwrap_or (in_place_of op l) (node op l)) (same_over registry schema op ts us h)
+  pub same_written_over : (op : Op) (ts us : Trees Op) → AllRelated (IsLike related registry schema) ts us → HasSameWritten registry schema (node op ts) (node op us)
+  same_written_over op ts us h = ap (λ l. unwrap_or (in_place_of op l) (node op l)) (same_over op ts us h)
 
-pub same_written_transitive : (registry : Registry) (schema : Columns) → IsTransitive (HasSameWritten registry schema)
-same_written_transitive registry schema t u w a b = b ∙ a
+  pub settled_steady : IsSteady (is_settled registry schema) related registry schema
+  settled_steady op ts us h =
+      ap (λ r. is_strict_over registry schema op r && stays (coerced registry schema (node op us))) (like_typings related registry schema ts us h)
+      ∙ ap (λ l. is_strict_over registry schema op (typing_all registry schema ts) && not (is_some (in_place_of op l))) (same_over op ts us h)
 
-pub settled_steady : (registry : Registry) (schema : Columns) → IsSteady (is_settled registry schema) (HasSameWritten registry schema) registry schema
-settled_steady registry schema op ts us h =
-    ap (λ r. is_strict_over registry schema op r && stays (coerced registry schema (node op us))) (like_typings (HasSameWritten registry schema) registry schema ts us h)
-    ∙ ap (λ l. is_strict_over registry schema op (typing_all registry schema ts) && not (is_some (in_place_of op l))) (same_over registry schema op ts us h)
+-- ---- the relation that the rule of coercion keeps
+
+module _ (registry : Registry) (schema : Columns) where
+  like_become : (ts us : Trees Op) → AllRelated (IsLike (IsCoercion registry schema) registry schema) ts us → AllRelated (Becomes registry schema) ts us
+  like_become no_more no_more h = tt
+  like_become (more t ts) (more u us) h = (h.0.relates.becomes, like_become ts us h.1)
+  like_become no_more (more u us) h = absurd h
+  like_become (more t ts) no_more h = absurd h
+
+  pub coercion_congruent : IsCongruent (IsCoercion registry schema) registry schema
+  coercion_congruent op ts us h = record {
+    same = same_written_over (IsCoercion registry schema) registry schema (λ t u c. c.same) op ts us h;
+    becomes = becomes_over registry schema op ts us (like_become ts us h);
+  }
+
+  pub coercion_transitive : IsTransitive (IsCoercion registry schema)
+  coercion_transitive t u w a b = record { same = b.same ∙ a.same; becomes = becomes_then registry schema t u w a.becomes b.becomes }
+
+  pub coercion_steady : IsSteady (is_settled registry schema) (IsCoercion registry schema) registry schema
+  coercion_steady = settled_steady (IsCoercion registry schema) registry schema (λ t u c. c.same)
 
 -- a node is replaced five times at most until it is settled
 gone_soon : (tree : Expression) → until_gone tree ≤ 3

@@ -17,7 +17,8 @@ use Rattle.plan_arena.specs.Layers.{layer, inputs_of, op_of}
 use Rattle.plan_arena.specs.Items.{HoldsExpression, HoldsFrom, expression_layer}
 use Rattle.plan_infer.specs.declared.type_table.Inferred.{Inferred}
 use Rattle.plan_infer.specs.declared.type_table.TypeTable.{TypeTable}
-use Rattle.plan_infer.specs.KeptTypes.{IsKept, Keeps, KeepsEntry, KeepsType}
+use Rattle.plan_infer.specs.KeptTypes.{Extends, IsKept, IsRight, Keeps, KeepsEntry, KeepsType}
+use Rattle.plan_coerce.specs.Reaching.{IsClosed}
 
 -- operands that a node over typed children takes, made of their types where it has a rule
 abbrev pub fitted_by : Result Ruling ErrorKind → List Ty → Trees Op → Trees Op
@@ -98,6 +99,14 @@ ChangesType items table n =
 -- each node of an arena from a number on is kept as a strict one, and each cast of these changes the type
 abbrev pub AllStrictFrom : ℕ → List AExpr → TypeTable → Type 0
 AllStrictFrom start items table = (n : ℕ) → start ≤ n → n < length items → KeepsStrict table n × ChangesType items table n
+
+-- What adding nodes leaves: what is kept stays, and is right if it was; each new node is kept as a strict one; and the inputs
+-- of nodes that roots reach, or that were added, are such nodes, where those are of which it is said.
+pub record AddsNodes (near : List AExpr → List ℕ → Type 0) (old new : List AExpr) (table table' : TypeTable) : Type 0 where
+  pub right : (registry : Registry) (schema : Columns) → IsRight registry schema old table → IsRight registry schema new table'
+  pub closed : (start : List AExpr) (roots : List ℕ) → length start ≤ length old → near start roots → IsClosed start roots old → IsClosed start roots new
+  pub added : (registry : Registry) (schema : Columns) (start : ℕ) → start ≤ length old → IsRight registry schema old table → AllStrictFrom start old table → AllStrictFrom start new table'
+  pub extends : Extends table table'
 
 -- what is kept of a node that has a type of columns, and takes its operands to types that are listed
 pub record TakesOperands (own : Inferred) : Type 0 where

@@ -1,7 +1,7 @@
 -- Expressions without the casts that can be told beforehand.
 -- A cast of a literal is a literal of the type to which it goes, where that type has one and the value isn't null. A cast of
 -- LogicalAnd or LogicalOr to truth values is what stands under it. Casts further in go first. Any other cast stays.
-use Rattle.std.specs.Prelude.{◌≡◌, ◌⊎◌, ℕ, Bool, true, false, ◌&&◌, not, List, [], ◌∷◌, Option, Some, None, Ok, unwrap_or, is_some, if◌then◌else◌}
+use Rattle.std.specs.Prelude.{◌≡◌, ℕ, Bool, true, false, ◌&&◌, not, List, Option, Some, None, Ok, unwrap_or, is_some, if◌then◌else◌}
 use Rattle.plan_types.specs.Types.{Ty, Truth, same_type}
 use Rattle.plan_types.specs.Values.{Val, NullValue}
 use Rattle.plan_types.specs.Schemas.{Columns}
@@ -9,7 +9,7 @@ use Rattle.plan_types.specs.Casts.{Converted, Gives, Fails, can_cast, cast}
 use Rattle.plan_types.specs.declared.dtype.CastOptions.{CastOptions}
 use Rattle.plan_dsl.specs.declared.operator.Operator.{Operator}
 use Rattle.plan_dsl.specs.declared.operator.Operator.TheVariants.{LogicalAnd, LogicalOr}
-use Rattle.plan_dsl.specs.Literals.{is_literal, literal_op}
+use Rattle.plan_dsl.specs.Literals.{is_literal}
 use Rattle.plan_dsl.specs.Registry.{Registry}
 use Rattle.plan_dsl.specs.Ops.{Op, LiteralOp, BinaryOp, CastOp, Expression}
 use Rattle.plan_dsl.specs.Trees.{Trees, node, no_more, more}
@@ -18,8 +18,6 @@ use Rattle.plan_arena.specs.declared.aexpr.AExpr.{AExpr}
 use Rattle.plan_arena.specs.Denotation.{Denotes}
 use Rattle.plan_arena.specs.Items.{HoldsExpression}
 use Rattle.plan_coerce.specs.Coercion.{coerced}
-use Rattle.plan_coerce.specs.declared.cast_inlining.Told.{Told}
-use Rattle.plan_coerce.specs.declared.cast_inlining.Told.TheVariants.{Literal, Logical, Neither}
 
 -- what a cast of a value gives: to the own type it changes nothing
 abbrev pub converted : Ty → Val → Ty → CastOptions → Converted
@@ -103,29 +101,6 @@ is_told_top op = false
 
 abbrev pub is_told : Expression → Bool
 is_told (node op operands) = is_told_top op
-
--- the node, which denotes the first tree, leads to another, which denotes the second, by only inputs alone
-abbrev pub LeadsTo : List AExpr → ℕ → Expression → ℕ → Expression → Type 0
-LeadsTo items n (node op (more tree no_more)) m u =
-    ((n ≡ m) × (node op (more tree no_more) ≡ u)) ⊎ ((k : ℕ) × HoldsExpression items n op (k ∷ []) × LeadsTo items k tree m u)
-LeadsTo items n (node op operands) m u = (n ≡ m) × (node op operands ≡ u)
-
--- the node leads to a node of LogicalAnd or LogicalOr that has a typing, which is what the tree is, written out
-pub record LeadsToLogical (registry : Registry) (schema : Columns) (items : List AExpr) (n : ℕ) (tree : Expression) (m : ℕ) : Type 0 where
-  pub operator : Operator
-  pub operands : Trees Op
-  pub logical : is_logical operator ≡ true
-  pub leads : LeadsTo items n tree m (node (BinaryOp operator) operands)
-  pub denotes : Denotes (HoldsExpression items) m (node (BinaryOp operator) operands)
-  pub typed : Typed
-  pub has : typing registry schema (node (BinaryOp operator) operands) ≡ Ok typed
-  pub is : written_out registry schema tree ≡ written_out registry schema (node (BinaryOp operator) operands)
-
--- what is found at a node that denotes the tree: a literal, or a node of such an operator, or nothing of which a cast can be told
-abbrev pub IsToldBy : Registry → Columns → List AExpr → ℕ → Expression → Told → Type 0
-IsToldBy registry schema items n tree (Literal value) = written_out registry schema tree ≡ node (literal_op value) no_more
-IsToldBy registry schema items n tree (Logical m) = LeadsToLogical registry schema items n tree m.0
-IsToldBy registry schema items n tree Neither = is_told (written_out registry schema tree) ≡ false
 
 -- the node denotes an expression that has a typing over some schema
 pub record IsTypedNode (items : List AExpr) (n : ℕ) : Type 0 where

@@ -17,12 +17,12 @@ use Rattle.plan_arena.specs.declared.ir.IR.{IR}
 use Rattle.plan_arena.specs.Denotation.{Denotes, DenotesTree}
 use Rattle.plan_arena.specs.Items.{HoldsExpression, expression_layer, numbers, passed}
 use Rattle.plan_infer.specs.declared.type_table.TypeTable.{TypeTable}
-use Rattle.plan_infer.specs.KeptTypes.{IsRight}
+use Rattle.plan_infer.specs.KeptTypes.{Extends, IsRight}
 use Rattle.plan_coerce.specs.declared.stack_opt.ConversionOptimizer.{ConversionOptimizer}
 use Rattle.plan_coerce.specs.Coercion.{KeepsBelow}
 use Rattle.plan_coerce.specs.InlinedCasts.{written_out}
 use Rattle.plan_coerce.specs.Reaching.{Among, AreOnce, HaveNodes, IsReached, Near}
-use Rattle.plan_coerce.specs.Rules.{IsLike, IsPlanReplacement, IsSettledPlan, SettlesNoNumber, StandsOver}
+use Rattle.plan_coerce.specs.Rules.{IsLike, IsPlanReplacement, IsSettledPlan, NeverForgets, SettlesNoNumber, StandsOver}
 
 -- the nodes at which coercion starts, and these with their inputs
 abbrev pub roots_of : ConversionOptimizer → List ℕ
@@ -188,6 +188,11 @@ pub record LoopEnds (is_settled : Expression → Bool) (related : Expression →
   pub settled : AllByRecursion (DenotesSettled is_settled new) roots
   pub alone : TypesNumber is_settled related registry schema old new roots
   pub ends : (n : ℕ) → turns ≡ Some n → SettlesNoNumber is_settled registry schema → AreRoots is_settled registry schema old roots → AllByRecursion (EndsSettled is_settled related registry schema old new) roots
+
+-- What was kept of types still is after the loop over a rule that never forgets it, from typed roots on.
+abbrev pub LoopKeeps : (List AExpr → TypeTable → ℕ → Type 0) → (Expression → Bool) → Registry → Columns → List AExpr → List ℕ → TypeTable → TypeTable → Type 0
+LoopKeeps forgets settled registry schema items roots old new =
+    NeverForgets forgets → AreTypedRoots settled registry schema items roots → Extends old new
 
 -- where the plan's node is a filter, the schema is the one that goes into it
 abbrev pub StaysOver : Registry → List AExpr → List IR → ℕ → Columns → Type 0

@@ -2,7 +2,7 @@
 -- What a rule says of a node goes by the expression that it denotes. Where it goes by what the node does and by what is
 -- seen of its inputs alone, their names and typings, it stays so where inputs are put in place by others that are like them.
 -- What is said of a plan's node goes by the node's kind, and by the schema that goes into it.
-use Rattle.std.specs.Prelude.{◌≡◌, ◌<◌, ◌≤◌, ◌+◌, ◌&&◌, ℕ, ℤ, Bool, true, false, List, [], ◌∷◌, length, set, Result, Ok, Err, if◌then◌else◌}
+use Rattle.std.specs.Prelude.{◌≡◌, ◌⊎◌, ◌<◌, ◌≤◌, ◌+◌, ◌&&◌, ℕ, ℤ, Bool, true, false, List, [], ◌∷◌, length, Result, Ok, Err, if◌then◌else◌}
 use Rattle.std.specs.List.{AllByRecursion}
 use Rattle.plan_types.specs.Frames.{IsFrame, Row}
 use Rattle.plan_types.specs.Types.{Untyped, is_known, is_truth}
@@ -26,10 +26,10 @@ use Rattle.plan_arena.specs.Items.{HoldsExpression, HoldsPlan}
 use Rattle.plan_arena.specs.Runs.{AllAccepted}
 use Rattle.plan_infer.specs.declared.type_table.Inferred.{Inferred}
 use Rattle.plan_infer.specs.declared.type_table.TypeTable.{TypeTable}
-use Rattle.plan_infer.specs.KeptTypes.{IsRight, KeepsEntry, typed_of}
+use Rattle.plan_infer.specs.KeptTypes.{Extends, IsKept, KeepsEntry, typed_of}
 use Rattle.plan_coerce.specs.Coercion.{coerced}
 use Rattle.plan_coerce.specs.InlinedCasts.{stays, until_gone, written_out}
-use Rattle.plan_coerce.specs.Reaching.{IsClosed, IsReached, StaysOnce}
+use Rattle.plan_coerce.specs.Reaching.{IsReached}
 use Rattle.plan_arena.specs.Unchecked.{GoesInto, HasUncheckedSchema}
 
 -- ---- nodes of expressions
@@ -101,6 +101,24 @@ pub record KeepsNumber (table : TypeTable) (n : ℕ) : Type 0 where
   pub keeps : KeepsEntry table n own
   pub is : (typed_of own).type ≡ Untyped number
 
+-- it is kept of the node that it takes its operands as they are
+pub record KeepsAsTheyAre (table : TypeTable) (n : ℕ) : Type 0 where
+  pub own : Inferred
+  pub keeps : KeepsEntry table n own
+  pub none : own.operands ≡ []
+
+-- nothing is kept
+abbrev pub KeepsNone : TypeTable → Type 0
+KeepsNone table = (n : ℕ) → ¬ (IsKept table n)
+
+-- what was kept still is, or nothing is any more, which is so only there
+abbrev pub ExtendsUnless : Type 0 → TypeTable → TypeTable → Type 0
+ExtendsUnless forgets old new = Extends old new ⊎ (forgets × KeepsNone new)
+
+-- nothing is forgotten anywhere
+abbrev pub NeverForgets : (List AExpr → TypeTable → ℕ → Type 0) → Type 0
+NeverForgets forgets = (items : List AExpr) (table : TypeTable) (n : ℕ) → ¬ (forgets items table n)
+
 -- ---- the rule of coercion
 
 -- whether a node is strict
@@ -120,13 +138,6 @@ until_settled registry schema tree =
 -- both are one expression once they are written out
 abbrev pub HasSameWritten : Registry → Columns → Expression → Expression → Type 0
 HasSameWritten registry schema before after = written_out registry schema after ≡ written_out registry schema before
-
--- an item can be put in place of the one at a node, in the arena as it has grown
-pub record CanReplace (old new : List AExpr) (table table' : TypeTable) (at : ℕ) (item : AExpr) : Type 0 where
-  pub answer : (registry : Registry) (schema : Columns) (t : Expression) → IsRight registry schema old table → Denotes (HoldsExpression old) at t → IsReplacement (HasSameWritten registry schema) (until_settled registry schema) registry schema old (set new at item) at t
-  pub reaches : IsClosed old (at ∷ []) (set new at item)
-  pub once : StaysOnce old (set new at item) at
-  pub placed : (registry : Registry) (schema : Columns) → IsRight registry schema old table → IsRight registry schema (set new at item) table'
 
 -- ---- nodes of plans
 

@@ -18,7 +18,8 @@ use Rattle.plan_arena.specs.declared.ir.IR.TheVariants.{DataFrameScan, Filter}
 use Rattle.plan_arena.specs.declared.expr_ir.OutputName.TheVariants.{ColumnLhs}
 use Rattle.plan_infer.specs.Samples.{int32, two_columns, a, b, binary, cast_to, at, pair, columns_and}
 use Rattle.plan_coerce.specs.InlinedCasts.{literal_cast}
-use Rattle.plan_coerce.specs.Rules.{HasSameWritten, is_settled, until_settled}
+use Rattle.plan_coerce.specs.CoercionRule.{IsCoercion}
+use Rattle.plan_coerce.specs.Rules.{is_settled, until_settled}
 use Rattle.plan_coerce.specs.Turns.{IsFound, IsPlaced, IsStopped, IsTurn}
 
 abbrev pub wide : Expression
@@ -37,16 +38,16 @@ strict_items = columns_and (pair 3 Plus 1 ∷ cast_of 0 dtype.Int32 ∷ [])
 
 -- what the rule of coercion does at nodes over these columns
 abbrev pub IsSumPlaced : List AExpr → List AExpr → ℕ → Type 0
-IsSumPlaced = IsPlaced (is_settled [] two_columns) (until_settled [] two_columns) (HasSameWritten [] two_columns) (Some 1) [] two_columns
+IsSumPlaced = IsPlaced (is_settled [] two_columns) (until_settled [] two_columns) (IsCoercion [] two_columns) (Some 1) [] two_columns
 
 abbrev pub IsSumFound : List AExpr → List AExpr → ℕ → Type 0
 IsSumFound = IsFound (is_settled [] two_columns)
 
 abbrev pub IsSumTurn : List AExpr → List AExpr → ℕ → List ℕ → List ℕ → ℕ → ℕ → Type 0
-IsSumTurn = IsTurn (is_settled [] two_columns) (until_settled [] two_columns) (HasSameWritten [] two_columns) (Some 1) [] two_columns
+IsSumTurn = IsTurn (is_settled [] two_columns) (until_settled [] two_columns) (IsCoercion [] two_columns) (Some 1) [] two_columns
 
 abbrev pub IsSumStopped : List AExpr → List AExpr → ℕ → Type 0
-IsSumStopped = IsStopped (is_settled [] two_columns) (until_settled [] two_columns) (HasSameWritten [] two_columns) (Some 1) [] two_columns
+IsSumStopped = IsStopped (is_settled [] two_columns) (until_settled [] two_columns) (IsCoercion [] two_columns) (Some 1) [] two_columns
 
 -- two columns and whether they are equal
 abbrev pub equal_items : List AExpr

@@ -1,11 +1,11 @@
 //! What stands for casts that can be told beforehand: a literal for a cast of one, and what stands under a cast of
 //! `LogicalAnd` or `LogicalOr` to truth values. Casts further in go first.
-ghost use Rattle.std.specs.Prelude.{◌≡◌, ◌⊎◌, ℕ, List, [], ◌∷◌, None, Some, Ok, set, true, MatchOption, IfOk, IfErr};
+ghost use Rattle.std.specs.Prelude.{◌≡◌, ◌↔◌, ℕ, List, ◌∷◌, [], IsTrue, None, Some, Ok, true, false, MatchOption, IfOk, IfErr};
 ghost use Rattle.plan_types.specs.Errors.{no_memory};
 ghost use Rattle.plan_types.specs.Types.{is_known, ty};
 ghost use Rattle.plan_types.specs.Schemas.{Columns};
 ghost use Rattle.plan_types.specs.ValueViews.{val_of};
-ghost use Rattle.plan_dsl.specs.Literals.{literal_op, literal_type, literal_value, settled_op};
+ghost use Rattle.plan_dsl.specs.Literals.{literal_op, literal_type, literal_value};
 ghost use Rattle.plan_dsl.specs.Ops.{CastOp, Expression};
 ghost use Rattle.plan_dsl.specs.Registry.{Registry};
 ghost use Rattle.plan_dsl.specs.Trees.{node, no_more, more};
@@ -14,12 +14,12 @@ ghost use Rattle.plan_arena.specs.declared.aexpr.AExpr.{AExpr};
 ghost use Rattle.plan_arena.specs.Denotation.{Denotes, DenotesTree};
 ghost use Rattle.plan_arena.specs.Items.{HoldsExpression, expression_layer};
 ghost use Rattle.plan_arena.specs.Layers.{op_of};
-ghost use Rattle.plan_infer.specs.declared.type_table.Inferred.{Inferred};
-ghost use Rattle.plan_infer.specs.KeptTypes.{IsKept, IsRight, KeepsEntry};
+ghost use Rattle.plan_infer.specs.KeptTypes.{HasRightTypes, IsKept, IsRight};
 ghost use Rattle.plan_coerce.specs.Coercion.{coerced};
-ghost use Rattle.plan_coerce.specs.InlinedCasts.{IsToldBy, IsTypedNode, is_cast_op, is_logical, literal_cast, literal_with, stays};
-ghost use Rattle.plan_coerce.specs.Reaching.{IsClosed, StaysOnce};
-ghost use Rattle.plan_coerce.specs.Rules.{HasSameWritten, IsReplacement, is_strict_node, said, until_settled};
+ghost use Rattle.plan_coerce.specs.CoercionRule.{CanReplace, StaysSettled};
+ghost use Rattle.plan_coerce.specs.InlinedCasts.{is_cast_op, is_logical, literal_cast, literal_with, stays};
+ghost use Rattle.plan_coerce.specs.Rules.{KeepsAsTheyAre, KeepsNone, is_strict_node, said};
+ghost use Rattle.plan_coerce.specs.ToldCasts.{IsToldBy};
 
 use plan_arena::aexpr::AExpr;
 use plan_arena::arena::{Arena, Node};
@@ -27,7 +27,6 @@ use plan_dsl::literal::LiteralValue;
 use plan_dsl::operator::Operator;
 use plan_infer::type_table::TypeTable;
 use plan_types::cast::{can_cast, cast_value};
-use plan_types::common_type::materialize_dyn_int;
 use plan_types::dtype::{CastOptions, DataType};
 use plan_types::error::{CastError, ErrorKind, PlanError};
 use plan_types::value::Value;
@@ -44,25 +43,20 @@ enum Told {
     Neither,
 }
 
-/// The item that is to be put in place of a strict node, unless that stays. What is kept of the node is right of the item
-/// too, or nothing is kept any more.
+/// The item that is to be put in place of a strict node, unless that stays. What is kept of types is right of the item
+/// too, or is forgotten.
 pub(crate) fn in_place_of(
     node: Node,
     arena: &Arena<AExpr>,
     types: &mut TypeTable,
 ) -> Result<Option<AExpr>, PlanError>
-    requires typed { IsTypedNode arena.now node.0 }
+    requires right { HasRightTypes arena.now types.old }
     requires kept { IsKept types.old node.0 }
-    ensures answer { IfOk result (λ answer. (registry : Registry) (schema : Columns) (t : Expression) (typed : Typed) → Denotes (HoldsExpression arena.now) node.0 t → typing registry schema t ≡ Ok typed →
-        said (is_strict_node registry schema) registry schema t ≡ true → MatchOption answer
-        (stays (coerced registry schema t) ≡ true)
-        (λ item. IsReplacement (HasSameWritten registry schema) (until_settled registry schema) registry schema arena.now (set arena.now node.0 item) node.0 t)) }
-    ensures reaches { IfOk result (λ answer. MatchOption answer Unit (λ item. IsClosed arena.now (node.0 ∷ []) (set arena.now node.0 item))) }
-    ensures once { IfOk result (λ answer. MatchOption answer Unit (λ item. StaysOnce arena.now (set arena.now node.0 item) node.0)) }
-    ensures placed { IfOk result (λ answer. MatchOption answer Unit (λ item. (registry : Registry) (schema : Columns) → IsRight registry schema arena.now types.old →
-        IsRight registry schema (set arena.now node.0 item) types.new)) }
-    ensures right { (registry : Registry) (schema : Columns) → IsRight registry schema arena.now types.old → IsRight registry schema arena.now types.new }
-    ensures table { IfOk result (λ answer. answer ≡ None → types.new ≡ types.old) }
+    requires strict { (registry : Registry) (schema : Columns) (t : Expression) → IsRight registry schema arena.now types.old → Denotes (HoldsExpression arena.now) node.0 t →
+        said (is_strict_node registry schema) registry schema t ≡ true }
+    ensures answer { IfOk result (λ answer. MatchOption answer
+        (StaysSettled (λ registry schema t. stays (coerced registry schema t)) arena.now arena.now types.old types.new node.0)
+        (λ item. CanReplace arena.now arena.now types.old types.new node.0 item)) }
     ensures err { IfErr result (λ error. error ≡ no_memory) }
 {
     if !is_cast(arena.get(node)) {
@@ -84,7 +78,7 @@ pub(crate) fn in_place_of(
 
 // Whether it is kept of a node that it takes its operands as they are.
 fn keeps_strict(node: Node, types: &TypeTable) -> bool
-    ensures { result ≡ true → (own : Inferred) × KeepsEntry types.now node.0 own × (own.operands ≡ []) }
+    ensures { IsTrue result ↔ KeepsAsTheyAre types.now node.0 }
 {
     match types.kept(node) {
         None => false,
@@ -92,9 +86,9 @@ fn keeps_strict(node: Node, types: &TypeTable) -> bool
     }
 }
 
-// Whether it is kept of both.
+// Whether it is kept of both nodes.
 fn both_strict(node: Node, below: Node, types: &TypeTable) -> bool
-    ensures { result ≡ true → ((own : Inferred) × KeepsEntry types.now node.0 own × (own.operands ≡ [])) × ((own : Inferred) × KeepsEntry types.now below.0 own × (own.operands ≡ [])) }
+    ensures { IsTrue result ↔ (KeepsAsTheyAre types.now node.0 × KeepsAsTheyAre types.now below.0) }
 {
     if !keeps_strict(node, types) {
         return false;
@@ -104,7 +98,8 @@ fn both_strict(node: Node, below: Node, types: &TypeTable) -> bool
 
 // Keeps what is kept, or nothing.
 fn clear_unless(stays: bool, types: &mut TypeTable)
-    ensures { ((stays ≡ true) × (types.new ≡ types.old)) ⊎ ((n : ℕ) → ¬ (IsKept types.new n)) }
+    ensures stays { stays ≡ true → types.new ≡ types.old }
+    ensures none { stays ≡ false → KeepsNone types.new }
 {
     if !stays {
         types.clear();
@@ -172,26 +167,13 @@ fn cast_of(
             DataType::Boolean => Ok(Told::Logical(node)),
             _ => Ok(Told::Neither),
         },
-        Told::Literal(value) => match literal_cast(alloc, settled(value), dtype, options)? {
-            None => Ok(Told::Neither),
-            Some(made) => Ok(Told::Literal(made)),
-        },
-    }
-}
-
-// A literal of the type that a number without one has alone, or another literal.
-fn settled(value: LiteralValue) -> LiteralValue
-    ensures { literal_op result ≡ settled_op (literal_op value) }
-{
-    let LiteralValue::Int(number) = value else {
-        return value;
-    };
-    let Some(own) = materialize_dyn_int(number) else {
-        return value;
-    };
-    match LiteralValue::of_number(&own, number) {
-        Some(typed) => typed,
-        None => unreachable!(),
+        Told::Literal(mut value) => {
+            value.settle();
+            match literal_cast(alloc, value, dtype, options)? {
+                None => Ok(Told::Neither),
+                Some(made) => Ok(Told::Literal(made)),
+            }
+        }
     }
 }
 

@@ -1,5 +1,5 @@
 //! The rule that each node has operands of the types to which it takes them, and is no cast that can be told beforehand.
-ghost use Rattle.std.specs.Prelude.{◌≡◌, ◌≢◌, ℕ, ℤ, ◌≤◌, List, [], ◌∷◌, Some, length, slice_get, map, set, true, MatchOption, IfOk, IfErr, OnOk, false};
+ghost use Rattle.std.specs.Prelude.{◌≡◌, ◌≢◌, ℤ, [], ◌∷◌, Some, length, slice_get, map, set, true, MatchOption, IfOk, IfErr, OnOk, false};
 ghost use Rattle.std.specs.List.{AllByRecursion};
 ghost use Rattle.plan_types.specs.CommonTypes.{type_alone};
 ghost use Rattle.plan_types.specs.Errors.{IsRefusal, no_memory};
@@ -17,10 +17,11 @@ ghost use Rattle.plan_arena.specs.Layers.{inputs_of};
 ghost use Rattle.plan_infer.specs.declared.type_table.Inferred.{Inferred};
 ghost use Rattle.plan_infer.specs.KeptTypes.{Extends, HasRightTypes, IsKept, IsRight, KeepsEntry, typings_at};
 ghost use Rattle.plan_infer.specs.Typed.{HasType};
-ghost use Rattle.plan_coerce.specs.CoercedLaws.{same_written_congruent, same_written_transitive, settled_steady, until_settled_bounded};
-ghost use Rattle.plan_coerce.specs.Coercion.{AllStrictFrom, IsOver, TakesOperands};
+ghost use Rattle.plan_coerce.specs.CoercedLaws.{coercion_congruent, coercion_steady, coercion_transitive, until_settled_bounded};
+ghost use Rattle.plan_coerce.specs.Coercion.{AddsNodes, IsOver, TakesOperands};
+ghost use Rattle.plan_coerce.specs.CoercionRule.{CanReplace, ForgetsOnceTyped, IsCoercion, StaysSettled};
 ghost use Rattle.plan_coerce.specs.Reaching.{IsClosed, StaysOnce};
-ghost use Rattle.plan_coerce.specs.Rules.{CanReplace, HasSameWritten, IsReplacement, KeepsNumber, is_settled, is_strict_node, said, until_settled};
+ghost use Rattle.plan_coerce.specs.Rules.{is_settled, is_strict_node, said, until_settled};
 
 use crate::cast_inlining::{in_place_of, is_cast};
 use crate::rule::OptimizationRule;
@@ -51,17 +52,19 @@ impl OptimizationRule for TypeCoercionRule {
 
     ghost turns = { λ rule. Some 8 };
 
-    ghost related = { λ rule. HasSameWritten };
+    ghost related = { λ rule. IsCoercion };
+
+    ghost forgets = { λ rule. ForgetsOnceTyped };
 
     ghost replaces_plans = { λ rule. false };
 
     ghost settled_plan = { λ rule registry schema kind. true };
 
-    ghost congruent = { λ rule. same_written_congruent };
+    ghost congruent = { λ rule. coercion_congruent };
 
-    ghost transitive = { λ rule. same_written_transitive };
+    ghost transitive = { λ rule. coercion_transitive };
 
-    ghost steady = { λ rule. settled_steady };
+    ghost steady = { λ rule. coercion_steady };
 
     ghost bounded = { λ rule. until_settled_bounded };
 
@@ -144,25 +147,15 @@ fn replacement(
 ) -> Result<Option<AExpr>, PlanError>
     requires right { HasRightTypes arena.old types.old }
     requires kept { IsKept types.old node.0 }
-    ensures answer { IfOk result (λ answer. (registry : Registry) (schema : Columns) (t : Expression) → IsRight registry schema arena.old types.old →
-        Denotes (HoldsExpression arena.old) node.0 t → MatchOption answer (is_settled registry schema t ≡ true)
-        (λ item. IsReplacement (HasSameWritten registry schema) (until_settled registry schema) registry schema arena.old (set arena.new node.0 item) node.0 t)) }
-    ensures reaches { IfOk result (λ answer. MatchOption answer Unit (λ item. IsClosed arena.old (node.0 ∷ []) (set arena.new node.0 item))) }
-    ensures once { IfOk result (λ answer. MatchOption answer Unit (λ item. StaysOnce arena.old (set arena.new node.0 item) node.0)) }
-    ensures placed { IfOk result (λ answer. MatchOption answer Unit (λ item. (registry : Registry) (schema : Columns) → IsRight registry schema arena.old types.old →
-        ¬ (KeepsNumber types.new node.0) → IsRight registry schema (set arena.new node.0 item) types.new)) }
-    ensures right { OnOk result ((registry : Registry) (schema : Columns) → IsRight registry schema arena.old types.old → IsRight registry schema arena.new types.new) }
+    ensures answer { IfOk result (λ answer. MatchOption answer
+        (StaysSettled is_settled arena.old arena.new types.old types.new node.0)
+        (λ item. CanReplace arena.old arena.new types.old types.new node.0 item)) }
     ensures grows { Grows arena.old arena.new }
-    ensures same { IfOk result (λ answer. answer ≡ None → arena.new ≡ arena.old) }
-    ensures table { IfOk result (λ answer. answer ≡ None → types.new ≡ types.old) }
     ensures err { IfErr result (λ error. error ≡ no_memory) }
 {
     match item_for(node, arena, types)? {
         Some(item) => Ok(Some(item)),
-        None => match in_place_of(node, arena, types)? {
-            None => Ok(None),
-            Some(told) => Ok(Some(told)),
-        },
+        None => in_place_of(node, arena, types),
     }
 }
 
@@ -175,17 +168,10 @@ fn item_for(
 ) -> Result<Option<AExpr>, PlanError>
     requires right { HasRightTypes arena.old types.old }
     requires kept { IsKept types.old node.0 }
-    ensures answer { IfOk result (λ answer. (registry : Registry) (schema : Columns) (t : Expression) → IsRight registry schema arena.old types.old →
-        Denotes (HoldsExpression arena.old) node.0 t → MatchOption answer (said (is_strict_node registry schema) registry schema t ≡ true)
-        (λ item. IsReplacement (HasSameWritten registry schema) (until_settled registry schema) registry schema arena.old (set arena.new node.0 item) node.0 t)) }
-    ensures reaches { IfOk result (λ answer. MatchOption answer Unit (λ item. IsClosed arena.old (node.0 ∷ []) (set arena.new node.0 item))) }
-    ensures once { IfOk result (λ answer. MatchOption answer Unit (λ item. StaysOnce arena.old (set arena.new node.0 item) node.0)) }
-    ensures placed { IfOk result (λ answer. MatchOption answer Unit (λ item. (registry : Registry) (schema : Columns) → IsRight registry schema arena.old types.old →
-        ¬ (KeepsNumber types.new node.0) → IsRight registry schema (set arena.new node.0 item) types.new)) }
-    ensures right { OnOk result ((registry : Registry) (schema : Columns) → IsRight registry schema arena.old types.old → IsRight registry schema arena.new types.new) }
+    ensures answer { IfOk result (λ answer. MatchOption answer
+        (StaysSettled (λ registry schema. said (is_strict_node registry schema) registry schema) arena.old arena.new types.old types.new node.0)
+        (λ item. CanReplace arena.old arena.new types.old types.new node.0 item)) }
     ensures grows { Grows arena.old arena.new }
-    ensures same { IfOk result (λ answer. answer ≡ None → arena.new ≡ arena.old) }
-    ensures table { IfOk result (λ answer. answer ≡ None → types.new ≡ types.old) }
     ensures err { IfErr result (λ error. error ≡ no_memory) }
 {
     let own = types.get(node);
@@ -198,8 +184,7 @@ fn item_for(
             if own.is_strict() {
                 return Ok(None);
             }
-            let item = item_over(node, arena, types)?;
-            Ok(item)
+            item_over(node, arena, types)
         }
     }
 }
@@ -214,17 +199,10 @@ fn item_over(
     requires right { HasRightTypes arena.old types.old }
     requires kept { IsKept types.old node.0 }
     requires takes { (own : Inferred) → KeepsEntry types.old node.0 own → TakesOperands own }
-    ensures answer { IfOk result (λ answer. (registry : Registry) (schema : Columns) (t : Expression) → IsRight registry schema arena.old types.old →
-        Denotes (HoldsExpression arena.old) node.0 t → MatchOption answer (said (is_strict_node registry schema) registry schema t ≡ true)
-        (λ item. IsReplacement (HasSameWritten registry schema) (until_settled registry schema) registry schema arena.old (set arena.new node.0 item) node.0 t)) }
-    ensures reaches { IfOk result (λ answer. MatchOption answer Unit (λ item. IsClosed arena.old (node.0 ∷ []) (set arena.new node.0 item))) }
-    ensures once { IfOk result (λ answer. MatchOption answer Unit (λ item. StaysOnce arena.old (set arena.new node.0 item) node.0)) }
-    ensures placed { IfOk result (λ answer. MatchOption answer Unit (λ item. (registry : Registry) (schema : Columns) → IsRight registry schema arena.old types.old →
-        IsRight registry schema (set arena.new node.0 item) types.new)) }
-    ensures right { OnOk result ((registry : Registry) (schema : Columns) → IsRight registry schema arena.old types.old → IsRight registry schema arena.new types.new) }
+    ensures answer { IfOk result (λ answer. MatchOption answer
+        (StaysSettled (λ registry schema. said (is_strict_node registry schema) registry schema) arena.old arena.new types.old types.new node.0)
+        (λ item. CanReplace arena.old arena.new types.old types.new node.0 item)) }
     ensures grows { Grows arena.old arena.new }
-    ensures same { IfOk result (λ answer. answer ≡ None → arena.new ≡ arena.old) }
-    ensures table { IfOk result (λ answer. answer ≡ None → types.new ≡ types.old) }
     ensures err { IfErr result (λ error. error ≡ no_memory) }
 {
     if let AExpr::BinaryExpr { left, op, right } = arena.get(node) {
@@ -260,13 +238,9 @@ fn change_operands(
     requires kept { IsKept types.old node.0 }
     requires listed { (item : AExpr) → slice_get arena.old node.0 ≡ Some item → numbers operands.old ≡ inputs_of (expression_layer item) }
     requires takes { (own : Inferred) → KeepsEntry types.old node.0 own → TakesOperands own }
-    ensures stays { IfOk result (λ changed. changed ≡ false → (registry : Registry) (schema : Columns) (t : Expression) → IsRight registry schema arena.old types.old →
-        Denotes (HoldsExpression arena.old) node.0 t → said (is_strict_node registry schema) registry schema t ≡ true) }
-    ensures same { IfOk result (λ changed. changed ≡ false → arena.new ≡ arena.old) }
-    ensures table { IfOk result (λ changed. changed ≡ false → types.new ≡ types.old) }
+    ensures stays { IfOk result (λ changed. changed ≡ false → StaysSettled (λ registry schema. said (is_strict_node registry schema) registry schema) arena.old arena.new types.old types.new node.0) }
     ensures over { IfOk result (λ changed. changed ≡ true → (item : AExpr) → IsOver arena.old node.0 item (numbers operands.new) → CanReplace arena.old arena.new types.old types.new node.0 item) }
     ensures count { OnOk result (length operands.new ≡ length operands.old) }
-    ensures right { OnOk result ((registry : Registry) (schema : Columns) → IsRight registry schema arena.old types.old → IsRight registry schema arena.new types.new) }
     ensures grows { Grows arena.old arena.new }
     ensures err { IfErr result (λ error. error ≡ no_memory) }
 {
@@ -304,13 +278,8 @@ fn typed_number(
     ensures settles { IfOk result (λ item. (registry : Registry) (schema : Columns) (t : Expression) → Denotes (HoldsExpression arena.old) node.0 t →
         HasType (typing registry schema t) (Untyped number) → Denotes (HoldsExpression (set arena.new node.0 item)) node.0 (settled t)) }
     ensures once { IfOk result (λ item. StaysOnce arena.old (set arena.new node.0 item) node.0) }
-    ensures right { OnOk result ((registry : Registry) (schema : Columns) →
-        IsRight registry schema arena.old types.old → IsRight registry schema arena.new types.new) }
     ensures closed { IfOk result (λ item. IsClosed arena.old (node.0 ∷ []) (set arena.new node.0 item)) }
-    ensures apart { OnOk result (IsClosed arena.old [] arena.new) }
-    ensures added { OnOk result ((registry : Registry) (schema : Columns) (start : ℕ) → start ≤ length arena.old → IsRight registry schema arena.old types.old →
-        AllStrictFrom start arena.old types.old → AllStrictFrom start arena.new types.new) }
-    ensures extends { OnOk result (Extends types.old types.new) }
+    ensures adds { OnOk result (AddsNodes (λ start roots. Unit) arena.old arena.new types.old types.new) }
     ensures grows { Grows arena.old arena.new }
     ensures err { IfErr result (λ error. error ≡ no_memory) }
 {

@@ -1,5 +1,5 @@
 //! Rules that coercion goes by.
-ghost use Rattle.std.specs.Prelude.{◌≡◌, ◌≢◌, ◌≤◌, ℕ, Bool, true, false, Option, None, Some, Ok, MatchOption, set, ◌∷◌, [], IfOk, IfErr};
+ghost use Rattle.std.specs.Prelude.{◌≡◌, ◌≢◌, ◌≤◌, ℕ, Bool, true, false, List, Option, None, Some, Ok, MatchOption, set, ◌∷◌, [], IfOk, IfErr};
 ghost use Rattle.plan_types.specs.Errors.{IsRefusal, no_memory};
 ghost use Rattle.plan_types.specs.Types.{is_known};
 ghost use Rattle.plan_types.specs.Schemas.{Columns, columns};
@@ -7,11 +7,13 @@ ghost use Rattle.plan_dsl.specs.Ops.{Expression};
 ghost use Rattle.plan_dsl.specs.Plans.{Named, PlanKind, FilterKind};
 ghost use Rattle.plan_dsl.specs.Registry.{Registry, registry};
 ghost use Rattle.plan_dsl.specs.Typing.{Typed, typing};
+ghost use Rattle.plan_arena.specs.declared.aexpr.AExpr.{AExpr};
 ghost use Rattle.plan_arena.specs.Denotation.{Denotes, DenotesTree};
 ghost use Rattle.plan_arena.specs.Items.{Grows, HoldsExpression};
+ghost use Rattle.plan_infer.specs.declared.type_table.TypeTable.{TypeTable};
 ghost use Rattle.plan_infer.specs.KeptTypes.{Extends, IsRight};
 ghost use Rattle.plan_coerce.specs.Reaching.{IsClosed, StaysOnce};
-ghost use Rattle.plan_coerce.specs.Rules.{HasUncheckedInputs, IsCongruent, IsPlanReplacement, IsReplacement, IsSettledPlan, IsSteady, IsTransitive, KeepsNumber, RefusesPredicate, SettlesNoNumber, StandsOver};
+ghost use Rattle.plan_coerce.specs.Rules.{ExtendsUnless, HasUncheckedInputs, IsCongruent, IsPlanReplacement, IsReplacement, IsSettledPlan, IsSteady, IsTransitive, KeepsNumber, RefusesPredicate, SettlesNoNumber, StandsOver};
 
 use plan_arena::aexpr::AExpr;
 use plan_arena::arena::{Arena, Node};
@@ -36,6 +38,9 @@ pub trait OptimizationRule {
 
     // What else what is put in place has in common with what was there.
     ghost related: { Self → Registry → Columns → Expression → Expression → Type 0 };
+
+    // Where it may forget what is kept of types, as it puts an item in place of a node.
+    ghost forgets: { Self → List AExpr → TypeTable → ℕ → Type 0 };
 
     // Whether it may put anything in place of a plan's node.
     ghost replaces_plans: { Self → Bool };
@@ -68,7 +73,7 @@ pub trait OptimizationRule {
         ensures right { (schema : Columns) → IsRight (registry udfs.now) schema expr_arena.now types.old →
             ((predicate : Named Expression) (into : Columns) → StandsOver (registry udfs.now) expr_arena.now lp_arena.now node.0 (FilterKind predicate) into → into ≡ schema) →
             IsRight (registry udfs.now) schema expr_arena.now types.new }
-        ensures kept { IfOk result (λ answer. answer ≡ None → Extends types.old types.new) }
+        ensures kept { Extends types.old types.new }
         ensures untouched { ((predicate : Named Expression) (schema : Columns) → ¬ (StandsOver (registry udfs.now) expr_arena.now lp_arena.now node.0 (FilterKind predicate) schema)) →
             types.new ≡ types.old }
         ensures err { IfErr result (λ error. (kind : PlanKind (Named Expression)) (schema : Columns) → StandsOver (registry udfs.now) expr_arena.now lp_arena.now node.0 kind schema →
@@ -98,7 +103,7 @@ pub trait OptimizationRule {
             StaysOnce expr_arena.old (set expr_arena.new node.0 item) node.0)) }
         ensures grows { Grows expr_arena.old expr_arena.new }
         ensures same { IfOk result (λ answer. answer ≡ None → expr_arena.new ≡ expr_arena.old) }
-        ensures kept { IfOk result (λ answer. answer ≡ None → Extends types.old types.new) }
+        ensures kept { IfOk result (λ answer. ExtendsUnless ((answer ≢ None) × forgets self.now expr_arena.old types.old node.0) types.old types.new) }
         ensures right { IsRight (registry udfs.now) (columns schema.now) expr_arena.new types.new }
         ensures placed { IfOk result (λ answer. MatchOption answer Unit (λ item. ¬ (KeepsNumber types.new node.0) →
             IsRight (registry udfs.now) (columns schema.now) (set expr_arena.new node.0 item) types.new)) }

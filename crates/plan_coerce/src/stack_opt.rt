@@ -10,11 +10,11 @@ ghost use Rattle.plan_dsl.specs.Typing.{typing};
 ghost use Rattle.plan_arena.specs.Denotation.{Denotes, DenotesTree};
 ghost use Rattle.plan_arena.specs.Items.{Grows, HoldsExpression, expression_layer, named_node, numbers};
 ghost use Rattle.plan_arena.specs.Layers.{inputs_of};
-ghost use Rattle.plan_infer.specs.KeptTypes.{IsRight};
-ghost use Rattle.plan_coerce.specs.Optimizer.{AreTrees, HasTyping, IsCoercionRefusal, IsPlanTurn, LoopEnds, LoopLeaves, StaysOver, all_with_inputs, roots_of, stacked, with_inputs};
+ghost use Rattle.plan_infer.specs.KeptTypes.{Extends, IsRight};
+ghost use Rattle.plan_coerce.specs.Optimizer.{AreTrees, HasTyping, IsCoercionRefusal, IsPlanTurn, LoopEnds, LoopKeeps, LoopLeaves, StaysOver, all_with_inputs, roots_of, stacked, with_inputs};
 ghost use Rattle.plan_coerce.specs.Reaching.{Among};
-ghost use Rattle.plan_coerce.specs.Rules.{HasUncheckedInputs, KeepsNumber, RefusesPredicate, SettlesNoNumber, StandsOver};
-ghost use Rattle.plan_coerce.specs.Turns.{IsStopped, IsTurn};
+ghost use Rattle.plan_coerce.specs.Rules.{HasUncheckedInputs, KeepsNone, KeepsNumber, RefusesPredicate, SettlesNoNumber, StandsOver};
+ghost use Rattle.plan_coerce.specs.Turns.{IsStopped, IsTurn, TurnKeeps};
 
 use crate::coercion_rule::infer_once;
 use crate::rule::OptimizationRule;
@@ -177,6 +177,7 @@ impl ConversionOptimizer {
         requires right { IsRight (registry udfs.now) (columns schema.now) expr_arena.old types.old }
         ensures leaves { LoopLeaves (R.settled rule.now (registry udfs.now) (columns schema.now)) (R.related rule.now (registry udfs.now) (columns schema.now)) (R.turns rule.now) (registry udfs.now) (columns schema.now) expr_arena.old expr_arena.new (roots_of self.old) types.new steps.old steps.new }
         ensures done { OnOk result (LoopEnds (R.settled rule.now (registry udfs.now) (columns schema.now)) (R.related rule.now (registry udfs.now) (columns schema.now)) (R.turns rule.now) (registry udfs.now) (columns schema.now) expr_arena.old expr_arena.new (roots_of self.old)) }
+        ensures kept { OnOk result (LoopKeeps (R.forgets rule.now) (R.settled rule.now (registry udfs.now) (columns schema.now)) (registry udfs.now) (columns schema.now) expr_arena.old (roots_of self.old) types.old types.new) }
         ensures no_roots { roots_of self.new ≡ [] }
         ensures none_stacked { stacked self.new ≡ [] }
         ensures err { IfErr result (λ error. IsCoercionRefusal (R.settled rule.now (registry udfs.now) (columns schema.now)) (R.turns rule.now) (registry udfs.now) (columns schema.now) expr_arena.old expr_arena.new (roots_of self.old) error) }
@@ -216,6 +217,7 @@ impl ConversionOptimizer {
         requires right { IsRight (registry udfs.now) (columns schema.now) expr_arena.old types.old }
         ensures leaves { LoopLeaves (R.settled rule.now (registry udfs.now) (columns schema.now)) (R.related rule.now (registry udfs.now) (columns schema.now)) (R.turns rule.now) (registry udfs.now) (columns schema.now) expr_arena.old expr_arena.new (roots_of self.old) types.new steps.old steps.new }
         ensures done { OnOk result (LoopEnds (R.settled rule.now (registry udfs.now) (columns schema.now)) (R.related rule.now (registry udfs.now) (columns schema.now)) (R.turns rule.now) (registry udfs.now) (columns schema.now) expr_arena.old expr_arena.new (roots_of self.old)) }
+        ensures kept { OnOk result (LoopKeeps (R.forgets rule.now) (R.settled rule.now (registry udfs.now) (columns schema.now)) (registry udfs.now) (columns schema.now) expr_arena.old (roots_of self.old) types.old types.new) }
         ensures no_roots { roots_of self.new ≡ [] }
         ensures none_stacked { stacked self.new ≡ [] }
         ensures plans { (n : ℕ) → n ≢ node.0 → slice_get lp_arena.new n ≡ slice_get lp_arena.old n }
@@ -262,6 +264,7 @@ fn place_plan<R: OptimizationRule, M: Ledger>(
         R.settled_plan rule.now (registry udfs.now) over kind ≡ true → lp_arena.new ≡ lp_arena.old }
     ensures right { (schema : Columns) → IsRight (registry udfs.now) schema expr_arena.now types.old → StaysOver (registry udfs.now) expr_arena.now lp_arena.old node.0 schema →
         IsRight (registry udfs.now) schema expr_arena.now types.new }
+    ensures kept { Extends types.old types.new }
     ensures refused { OnErr result (lp_arena.new ≡ lp_arena.old) }
     ensures err { IfErr result (λ error. (kind : PlanKind (Named Expression)) (over : Columns) → StandsOver (registry udfs.now) expr_arena.now lp_arena.old node.0 kind over →
         RefusesPredicate (λ checked. IsRefusal checked error) (error ≡ no_memory) (registry udfs.now) over kind) }
@@ -287,6 +290,7 @@ fn type_nodes<M: Ledger>(
     requires trees { AreTrees arena.now (numbers nodes.now) }
     requires right { IsRight (registry udfs.now) (columns schema.now) arena.now types.old }
     ensures ok { OnOk result (AllByRecursion (HasTyping (registry udfs.now) (columns schema.now) arena.now) (numbers nodes.now)) }
+    ensures kept { Extends types.old types.new }
     ensures right { IsRight (registry udfs.now) (columns schema.now) arena.now types.new }
     ensures err { IfErr result (λ error. (n : ℕ) × Among (numbers nodes.now) n × ((t : Expression) → Denotes (HoldsExpression arena.now) n t →
         IsRefusal (typing (registry udfs.now) (columns schema.now) t) error)) }
@@ -312,6 +316,7 @@ fn coerce_stacked<R: OptimizationRule, M: Ledger, L: Ledger>(
     requires right { IsRight (registry udfs.now) (columns schema.now) arena.old types.old }
     ensures leaves { LoopLeaves (R.settled rule.now (registry udfs.now) (columns schema.now)) (R.related rule.now (registry udfs.now) (columns schema.now)) (R.turns rule.now) (registry udfs.now) (columns schema.now) arena.old arena.new (numbers stack.old.items) types.new steps.old steps.new }
     ensures done { OnOk result (LoopEnds (R.settled rule.now (registry udfs.now) (columns schema.now)) (R.related rule.now (registry udfs.now) (columns schema.now)) (R.turns rule.now) (registry udfs.now) (columns schema.now) arena.old arena.new (numbers stack.old.items)) }
+    ensures kept { OnOk result (LoopKeeps (R.forgets rule.now) (R.settled rule.now (registry udfs.now) (columns schema.now)) (registry udfs.now) (columns schema.now) arena.old (numbers stack.old.items) types.old types.new) }
     ensures err { IfErr result (λ error. IsCoercionRefusal (R.settled rule.now (registry udfs.now) (columns schema.now)) (R.turns rule.now) (registry udfs.now) (columns schema.now) arena.old arena.new (numbers stack.old.items) error) }
 {
     type_nodes(stack.as_slice(), schema, arena, udfs, types, typings)?;
@@ -345,6 +350,7 @@ fn visit<R: OptimizationRule, M: Ledger, L: Ledger>(
     ensures ok { OnOk result (IsTurn (R.settled rule.now (registry udfs.now) (columns schema.now)) (R.measure rule.now (registry udfs.now) (columns schema.now)) (R.related rule.now (registry udfs.now) (columns schema.now)) (R.turns rule.now) (registry udfs.now) (columns schema.now) arena.old arena.new node.0 (numbers stack.old.items) (numbers stack.new.items) steps.old steps.new) }
     ensures stopped { OnErr result (IsStopped (R.settled rule.now (registry udfs.now) (columns schema.now)) (R.measure rule.now (registry udfs.now) (columns schema.now)) (R.related rule.now (registry udfs.now) (columns schema.now)) (R.turns rule.now) (registry udfs.now) (columns schema.now) arena.old arena.new node.0) }
     ensures refused { IfErr result (λ error. (error ≡ no_memory) ⊎ Grows arena.old arena.new) }
+    ensures kept { OnOk result (TurnKeeps (R.forgets rule.now) (R.settled rule.now (registry udfs.now) (columns schema.now)) (registry udfs.now) (columns schema.now) arena.old node.0 types.old types.new) }
     ensures steps { steps.new ≤ steps.old + 2 }
     ensures right { IsRight (registry udfs.now) (columns schema.now) arena.new types.new }
     ensures err { IfErr result (λ error. (t : Expression) → Denotes (HoldsExpression arena.old) node.0 t → IsRefusal (typing (registry udfs.now) (columns schema.now) t) error) }
@@ -387,7 +393,7 @@ fn push_below(item: &AExpr, stack: &mut Nodes) -> bool
 fn put_in_place(node: Node, item: AExpr, arena: &mut Arena<AExpr>, types: &mut TypeTable)
     requires there { node.0 < length arena.old }
     ensures item { arena.new ≡ set arena.old node.0 item }
-    ensures kept { ¬ (KeepsNumber types.old node.0) → types.new ≡ types.old }
+    ensures kept { (types.new ≡ types.old) ⊎ (KeepsNumber types.old node.0 × KeepsNone types.new) }
     ensures right { (registry : Registry) (schema : Columns) → (¬ (KeepsNumber types.old node.0) → IsRight registry schema (set arena.old node.0 item) types.old) →
         IsRight registry schema arena.new types.new }
 {

@@ -38,6 +38,8 @@ impl OptimizationRule for TypeCheckRule {
 
     ghost related = { λ rule registry schema before after. Unit };
 
+    ghost forgets = { λ rule items table node. ⊥ };
+
     ghost replaces_plans = { λ rule. false };
 
     ghost settled_plan = { λ rule. has_truth };

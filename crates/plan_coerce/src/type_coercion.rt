@@ -20,7 +20,7 @@ ghost use Rattle.plan_arena.specs.Denotation.{Denotes, DenotesTree};
 ghost use Rattle.plan_arena.specs.Items.{Grows, HoldsExpression, HoldsFrom, numbers};
 ghost use Rattle.plan_infer.specs.declared.type_table.Inferred.{Inferred};
 ghost use Rattle.plan_infer.specs.KeptTypes.{Extends, HasRightTypes, IsKept, IsRight, Keeps, KeepsEntry};
-ghost use Rattle.plan_coerce.specs.Coercion.{AllReady, AllStrictFrom, AreChanged, IsChanged, IsReadyAt, KeepsStrict};
+ghost use Rattle.plan_coerce.specs.Coercion.{AddsNodes, AllReady, AllStrictFrom, AreChanged, IsChanged, IsReadyAt, KeepsStrict};
 ghost use Rattle.plan_coerce.specs.Reaching.{AreMadeOnce, HasNewNodes, IsClosed, IsMadeOnce, IsPutOnce, Near};
 
 use plan_arena::aexpr::AExpr;
@@ -47,14 +47,8 @@ pub(crate) fn operands_to(
     ensures changed { OnOk result ((own : Inferred) → KeepsEntry types.old node.0 own →
         AreChanged arena.old arena.new types.old (numbers operands.old) (numbers operands.new) (map ty own.operands)) }
     ensures kept { OnOk result (AllByRecursion (IsKept types.new) (numbers operands.new)) }
-    ensures right { OnOk result ((registry : Registry) (schema : Columns) →
-        IsRight registry schema arena.old types.old → IsRight registry schema arena.new types.new) }
-    ensures closed { OnOk result ((start : List AExpr) (roots : List ℕ) → length start ≤ length arena.old →
-        AllByRecursion (Near start roots) (numbers operands.old) → IsClosed start roots arena.old → IsClosed start roots arena.new) }
-    ensures added { OnOk result ((registry : Registry) (schema : Columns) (start : ℕ) → start ≤ length arena.old → IsRight registry schema arena.old types.old →
-        AllStrictFrom start arena.old types.old → AllStrictFrom start arena.new types.new) }
     ensures once { OnOk result (AreMadeOnce arena.old arena.new (numbers operands.old) (numbers operands.new)) }
-    ensures extends { OnOk result (Extends types.old types.new) }
+    ensures adds { OnOk result (AddsNodes (λ start roots. AllByRecursion (Near start roots) (numbers operands.old)) arena.old arena.new types.old types.new) }
     ensures grows { Grows arena.old arena.new }
     ensures err { IfErr result (λ error. error ≡ no_memory) }
 {
@@ -80,14 +74,8 @@ fn operand_to(
         slice_get own.operands index ≡ Some target → Keeps types.old input.0 from → IsChanged arena.old arena.new types.old
         (record { input = input.0; changed = changed.0; from = ty from; target = ty target })) }
     ensures kept { IfOk result (λ changed. IsKept types.new changed.0) }
-    ensures right { OnOk result ((registry : Registry) (schema : Columns) →
-        IsRight registry schema arena.old types.old → IsRight registry schema arena.new types.new) }
-    ensures closed { OnOk result ((start : List AExpr) (roots : List ℕ) → length start ≤ length arena.old → Near start roots input.0 →
-        IsClosed start roots arena.old → IsClosed start roots arena.new) }
-    ensures added { OnOk result ((registry : Registry) (schema : Columns) (start : ℕ) → start ≤ length arena.old → IsRight registry schema arena.old types.old →
-        AllStrictFrom start arena.old types.old → AllStrictFrom start arena.new types.new) }
     ensures once { IfOk result (λ changed. IsMadeOnce arena.old arena.new input.0 changed.0) }
-    ensures extends { OnOk result (Extends types.old types.new) }
+    ensures adds { OnOk result (AddsNodes (λ start roots. Near start roots input.0) arena.old arena.new types.old types.new) }
     ensures grows { Grows arena.old arena.new }
     ensures err { IfErr result (λ error. error ≡ no_memory) }
 {
@@ -130,15 +118,9 @@ pub(crate) fn number_under(
     ensures denotes { IfOk result (λ made. (first : ℕ) (t : Expression) → first ≤ length arena.old → Denotes (HoldsFrom first arena.old) node.0 t →
         Denotes (HoldsFrom first arena.new) made.0 (renamed t (number_as number (ty target)))) }
     ensures fresh { IfOk result (λ made. length arena.old ≤ made.0) }
-    ensures right { OnOk result ((registry : Registry) (schema : Columns) →
-        IsRight registry schema arena.old types.old → IsRight registry schema arena.new types.new) }
     ensures kept { IfOk result (λ made. IsKept types.new made.0) }
-    ensures closed { OnOk result ((start : List AExpr) (roots : List ℕ) → length start ≤ length arena.old →
-        IsClosed start roots arena.old → IsClosed start roots arena.new) }
-    ensures added { OnOk result ((registry : Registry) (schema : Columns) (start : ℕ) → start ≤ length arena.old → IsRight registry schema arena.old types.old →
-        AllStrictFrom start arena.old types.old → AllStrictFrom start arena.new types.new) }
     ensures once { IfOk result (λ made. HasNewNodes arena.old arena.new made.0) }
-    ensures extends { OnOk result (Extends types.old types.new) }
+    ensures adds { OnOk result (AddsNodes (λ start roots. Unit) arena.old arena.new types.old types.new) }
     ensures grows { Grows arena.old arena.new }
     ensures err { IfErr result (λ error. error ≡ no_memory) }
 {
@@ -167,15 +149,9 @@ fn number_to(
     ensures denotes { IfOk result (λ made. (first : ℕ) → first ≤ length arena.old →
         Denotes (HoldsFrom first arena.new) made.0 (number_as number (ty target))) }
     ensures fresh { IfOk result (λ made. length arena.old ≤ made.0) }
-    ensures right { OnOk result ((registry : Registry) (schema : Columns) →
-        IsRight registry schema arena.old types.old → IsRight registry schema arena.new types.new) }
     ensures kept { IfOk result (λ made. IsKept types.new made.0) }
-    ensures closed { OnOk result ((start : List AExpr) (roots : List ℕ) → length start ≤ length arena.old →
-        IsClosed start roots arena.old → IsClosed start roots arena.new) }
-    ensures added { OnOk result ((registry : Registry) (schema : Columns) (start : ℕ) → start ≤ length arena.old → IsRight registry schema arena.old types.old →
-        AllStrictFrom start arena.old types.old → AllStrictFrom start arena.new types.new) }
     ensures once { IfOk result (λ made. HasNewNodes arena.old arena.new made.0) }
-    ensures extends { OnOk result (Extends types.old types.new) }
+    ensures adds { OnOk result (AddsNodes (λ start roots. Unit) arena.old arena.new types.old types.new) }
     ensures grows { Grows arena.old arena.new }
     ensures err { IfErr result (λ error. error ≡ no_memory) }
 {

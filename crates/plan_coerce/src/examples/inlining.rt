@@ -10,8 +10,9 @@ ghost use Rattle.plan_dsl.specs.declared.literal.LiteralValue.TheVariants.{Int8}
 ghost use Rattle.plan_types.specs.declared.dtype.DataType.TheVariants as dtype;
 ghost use Rattle.plan_infer.specs.Samples.{int8, int16, int32, a, b, binary, cast_to, columns_and, five, literal, pair, strictly_cast_to};
 ghost use Rattle.plan_coerce.specs.declared.cast_inlining.Told.TheVariants.{Literal, Neither};
-ghost use Rattle.plan_coerce.specs.InlinedCasts.{IsToldBy, LeadsTo, inlined, is_told, literal_cast, stays};
+ghost use Rattle.plan_coerce.specs.InlinedCasts.{inlined, is_told, literal_cast, stays};
 ghost use Rattle.plan_coerce.specs.Samples.{CastsTo, cast_of, of, told_as};
+ghost use Rattle.plan_coerce.specs.ToldCasts.{IsToldBy, LeadsTo};
 
 /// The literal that stands for a cast of one.
 #[tactic(auto, unfolding(crate::proofs::OnLiterals::texts_on_literals))]

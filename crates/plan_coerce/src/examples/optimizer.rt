@@ -23,9 +23,10 @@ ghost use Rattle.plan_arena.specs.declared.ir.IR.TheVariants.{DataFrameScan};
 ghost use Rattle.plan_infer.specs.declared.type_table.TypeTable.{TypeTable};
 ghost use Rattle.plan_infer.specs.Samples.{int8, int32, two_columns, a, b, five, binary, cast_to, sum, pair, columns_and, sum_items, a_items, at, refused, ForEntry, ForTable};
 ghost use Rattle.plan_coerce.specs.Coercion.{AllReady, AllStrictFrom, AreChanged, IsChanged, IsOver, IsOverOperands, IsReady, IsReadyAt, KeepsStrict, TakesOperands};
-ghost use Rattle.plan_coerce.specs.Optimizer.{AreApart, AreRoots, AreSettled, AreTrees, AreTypedRoots, DenotesSettled, EndsSettled, EndsTyped, HasTyping, IsCoercionRefusal, IsNumberRoot, IsPlanTurn, IsSettled, IsTypedRoot, LeadsToNoNumber, ReachesNear, StaysApart, StaysFinite, StaysLikeBeside, StaysLikeTyped, StaysOver, TypesNumber, all_with_inputs, with_inputs};
+ghost use Rattle.plan_coerce.specs.CoercionRule.{ForgetsAt, ForgetsOnceTyped, IsCoercion};
+ghost use Rattle.plan_coerce.specs.Optimizer.{AreApart, AreRoots, AreSettled, AreTrees, AreTypedRoots, DenotesSettled, EndsSettled, EndsTyped, HasTyping, IsCoercionRefusal, IsNumberRoot, IsPlanTurn, IsSettled, IsTypedRoot, LeadsToNoNumber, LoopEnds, LoopKeeps, LoopLeaves, ReachesNear, StaysApart, StaysFinite, StaysLikeBeside, StaysLikeTyped, StaysOver, TypesNumber, all_with_inputs, with_inputs};
 ghost use Rattle.plan_coerce.specs.Reaching.{AreMadeOnce, HasNewNodes, IsClosed, IsMadeOnce, IsPutOnce, StaysOnce};
-ghost use Rattle.plan_coerce.specs.Rules.{IsSettledPlan, HasAcceptedInputs, HasSameWritten, HasUncheckedInputs, IsCongruent, IsLike, IsPlanNode, IsPlanReplacement, IsReplacement, IsSteady, KeepsNumber, RefusesPredicate, StandsOver, has_truth, is_settled, until_settled};
+ghost use Rattle.plan_coerce.specs.Rules.{ExtendsUnless, IsSettledPlan, HasAcceptedInputs, HasSameWritten, HasUncheckedInputs, IsCongruent, IsLike, IsPlanNode, IsPlanReplacement, IsReplacement, IsSteady, KeepsAsTheyAre, KeepsNone, KeepsNumber, NeverForgets, RefusesPredicate, StandsOver, has_truth, is_settled, until_settled};
 ghost use Rattle.plan_arena.specs.Samples.{named_twice};
 ghost use Rattle.plan_coerce.specs.Samples.{cast_of, strict_items, strict_sum, equal_items, filter_by, scan_and, filters, ForSchema, IsSumFound, IsSumPlaced, IsSumStopped, IsSumTurn};
 
@@ -149,8 +150,8 @@ pub fn roots_that_are_apart()
 /// The sum over a cast is put in place of the sum, which has its name, type and meaning. The sum itself isn't, nor one the
 /// other way round.
 pub fn sums_that_are_put_in_place()
-    ensures replacement { IsReplacement (HasSameWritten [] two_columns) (until_settled [] two_columns) [] two_columns sum_items strict_items 2 sum }
-    ensures other_name { ¬ (IsReplacement (HasSameWritten [] two_columns) (until_settled [] two_columns) [] two_columns sum_items (columns_and (pair 1 Plus 3 ∷ cast_of 0 dtype.Int32 ∷ [])) 2 sum) }
+    ensures replacement { IsReplacement (IsCoercion [] two_columns) (until_settled [] two_columns) [] two_columns sum_items strict_items 2 sum }
+    ensures other_name { ¬ (IsReplacement (IsCoercion [] two_columns) (until_settled [] two_columns) [] two_columns sum_items (columns_and (pair 1 Plus 3 ∷ cast_of 0 dtype.Int32 ∷ [])) 2 sum) }
     ensures placed { IsSumPlaced sum_items strict_items 2 }
     ensures unchanged { ¬ (IsSumPlaced sum_items sum_items 2) }
     ensures found { IsSumFound strict_items strict_items 2 }
@@ -184,6 +185,38 @@ pub fn nodes_that_are_made_once()
     ensures no_new_node { ¬ (IsPutOnce a_items a_items 0 0) }
     ensures stays { StaysOnce sum_items strict_items 2 }
     ensures no_longer { ¬ (StaysOnce sum_items (columns_and (pair 0 Plus 0 ∷ [])) 2) }
+{}
+
+/// The loop over the sum leaves the one with a cast, settled, after six steps, and after seven where an operand is a root too.
+/// It leaves no sum without the cast, and takes at most eighteen steps for each item.
+pub fn what_a_loop_leaves()
+    ensures one_root { ForTable 2 (None ∷ []) (λ table. LoopLeaves (is_settled [] two_columns) (IsCoercion [] two_columns) (Some 8) [] two_columns sum_items strict_items (2 ∷ []) table 0 6) }
+    ensures two_roots { ForTable 2 (None ∷ []) (λ table. LoopLeaves (is_settled [] two_columns) (IsCoercion [] two_columns) (Some 8) [] two_columns sum_items strict_items (2 ∷ 0 ∷ []) table 0 7) }
+    ensures too_many_steps { (table : TypeTable) → ¬ (LoopLeaves (is_settled [] two_columns) (IsCoercion [] two_columns) (Some 8) [] two_columns sum_items strict_items (2 ∷ []) table 0 73) }
+    ensures one_ends { LoopEnds (is_settled [] two_columns) (IsCoercion [] two_columns) (Some 8) [] two_columns sum_items strict_items (2 ∷ []) }
+    ensures two_end { LoopEnds (is_settled [] two_columns) (IsCoercion [] two_columns) (Some 8) [] two_columns sum_items strict_items (2 ∷ 0 ∷ []) }
+    ensures unsettled { ¬ (LoopEnds (is_settled [] two_columns) (IsCoercion [] two_columns) (Some 8) [] two_columns sum_items sum_items (2 ∷ [])) }
+    ensures kept { (table : TypeTable) → LoopKeeps (λ items table n. ⊥) (is_settled [] two_columns) [] two_columns sum_items (2 ∷ 0 ∷ []) table table }
+    ensures lost { ForEntry 2 dtype.Int32 true [] (λ own. ForTable 2 (Some own ∷ []) (λ table. ForTable 2 (None ∷ []) (λ none. ¬ (LoopKeeps (λ items table n. ⊥) (is_settled [] two_columns) [] two_columns sum_items (2 ∷ []) table none)))) }
+    ensures forgotten { (table none : TypeTable) → LoopKeeps (λ items table n. Unit) (is_settled [] two_columns) [] two_columns sum_items (2 ∷ []) table none }
+{}
+
+/// What is kept of types stays, or all of it is forgotten. The rule of coercion forgets it at a cast of which it is kept that
+/// it takes its operand to a type that is listed.
+pub fn types_that_are_forgotten()
+    ensures as_they_are { ForEntry 2 dtype.Int32 true [] (λ own. ForTable 2 (Some own ∷ []) (λ table. KeepsAsTheyAre table 2)) }
+    ensures listed { ForEntry 2 dtype.Int32 true (dtype.Int8 ∷ []) (λ own. ForTable 2 (Some own ∷ []) (λ table. ¬ (KeepsAsTheyAre table 2))) }
+    ensures nothing { ForTable 2 (None ∷ []) (λ table. KeepsNone table) }
+    ensures something { ForEntry 2 dtype.Int32 true [] (λ own. ForTable 2 (Some own ∷ []) (λ table. ¬ (KeepsNone table))) }
+    ensures stays { (table : TypeTable) → ExtendsUnless ⊥ table table }
+    ensures forgotten { (table : TypeTable) → ForTable 2 (None ∷ []) (λ none. ExtendsUnless Unit table none) }
+    ensures lost { ForEntry 2 dtype.Int32 true [] (λ own. ForTable 2 (Some own ∷ []) (λ table. ForTable 2 (None ∷ []) (λ none. ¬ (ExtendsUnless ⊥ table none)))) }
+    ensures cast { ForEntry 2 dtype.Int32 true (dtype.Int8 ∷ []) (λ own. ForTable 2 (Some own ∷ []) (λ table. ForgetsAt (columns_and (cast_of 0 dtype.Int32 ∷ [])) table 2)) }
+    ensures once_typed { ForEntry 2 dtype.Int32 true (dtype.Int8 ∷ []) (λ own. ForTable 2 (Some own ∷ []) (λ table. ForTable 2 (None ∷ []) (λ none. ForgetsOnceTyped (columns_and (cast_of 0 dtype.Int32 ∷ [])) none 2))) }
+    ensures strict_cast { ForEntry 2 dtype.Int32 true [] (λ own. ForTable 2 (Some own ∷ []) (λ table. ¬ (ForgetsAt (columns_and (cast_of 0 dtype.Int32 ∷ [])) table 2))) }
+    ensures sum { (table : TypeTable) → ¬ (ForgetsAt sum_items table 2) }
+    ensures anywhere { (table : TypeTable) → ¬ (NeverForgets (λ items table n. Unit)) }
+    ensures always { NeverForgets (λ items table n. ⊥) }
 {}
 
 /// A table keeps of a node that it takes its operands as they are, where none are kept, and its type is one of columns. A
@@ -287,11 +320,12 @@ pub fn operands_that_are_changed()
 /// children are so alike, but no node over a column is that column. Settled nodes stay so over such children, but strict
 /// expressions don't.
 pub fn expressions_that_are_alike()
-    ensures cast { IsLike (HasSameWritten [] two_columns) [] two_columns sum strict_sum }
+    ensures cast { IsLike (IsCoercion [] two_columns) [] two_columns sum strict_sum }
     ensures unrelated { ¬ (IsLike (λ before after. ⊥) [] two_columns sum strict_sum) }
     ensures other_name { ¬ (IsLike (λ before after. Unit) [] two_columns a b) }
     ensures same_written { IsCongruent (HasSameWritten [] two_columns) [] two_columns }
     ensures one_column_alone { ¬ (IsCongruent (λ before after. after ≡ a) [] two_columns) }
+    ensures coerced { IsCongruent (IsCoercion [] two_columns) [] two_columns }
     ensures settled_nodes { IsSteady (is_settled [] two_columns) (HasSameWritten [] two_columns) [] two_columns }
-    ensures strict_throughout { ¬ (IsSteady (is_strict [] two_columns) (HasSameWritten [] two_columns) [] two_columns) }
+    ensures strict_throughout { ¬ (IsSteady (is_strict [] two_columns) (IsCoercion [] two_columns) [] two_columns) }
 {}

@@ -9,6 +9,7 @@ ghost use Rattle.plan_dsl.specs.Trees.{node, no_more, more};
 ghost use Rattle.plan_dsl.specs.Names.{column_label, literal_label};
 ghost use Rattle.plan_dsl.specs.declared.operator.Operator.TheVariants.{Eq, LogicalAnd, LogicalOr, Plus};
 ghost use Rattle.plan_infer.specs.Samples.{int8, int16, int32, two_columns, a, b, c, five, literal, binary, cast_to, sum, pair, columns_and, sum_items, strictly_cast_to};
+ghost use Rattle.plan_coerce.specs.CoercionRule.{IsCoercion};
 ghost use Rattle.plan_coerce.specs.Reaching.{AreOnce, HasNodes};
 ghost use Rattle.plan_coerce.specs.Rules.{AllKnown, HasSameWritten, IsReplacement, IsTransitive, SettlesNoNumber, has_truth, is_settled, is_strict_node, said, seen, truth_of, until_settled};
 ghost use Rattle.plan_coerce.specs.Samples.{no_truth, strict_sum, truth};
@@ -59,7 +60,7 @@ pub fn predicates_that_are_checked()
 /// A node that stays as it is is put in place of none, and neither is one that says another thing. A rule that calls every
 /// node settled settles numbers without a type.
 pub fn what_is_no_replacement()
-    ensures unchanged { ¬ (IsReplacement (HasSameWritten [] two_columns) (until_settled [] two_columns) [] two_columns sum_items sum_items 2 sum) }
+    ensures unchanged { ¬ (IsReplacement (IsCoercion [] two_columns) (until_settled [] two_columns) [] two_columns sum_items sum_items 2 sum) }
     ensures other { ¬ (HasSameWritten [] two_columns sum a) }
     ensures same_written { HasSameWritten [] two_columns sum strict_sum }
     ensures any_node { ¬ (SettlesNoNumber (λ t. true) [] two_columns) }

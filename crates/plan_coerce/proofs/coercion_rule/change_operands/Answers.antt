@@ -1,4 +1,4 @@
-use Rattle.std.proofs.Common.{length, map, true, sym, ap, ◌∙◌, subst}
+use Rattle.std.proofs.Common.{length, map, true, refl, sym, ap, ◌∙◌, subst}
 use Rattle.std.specs.List.{AllByRecursion}
 use Rattle.std.proofs.lemmas.List.{length-map}
 use Rattle.plan_types.specs.Types.{ty}
@@ -32,13 +32,17 @@ takes_own-requires-clause-count c =
     sym (ready_length c.args.types.now (inputs_of (expression_layer item.0)) own.operands ready) ∙ sym (ap length (c.requires.listed item.0 item.1)) ∙ length-map c.args.operands.now (λ n. n.0)
 
 pub returns-then-takes_own-clause-stays : goal.returns-then-takes_own-clause-stays
-returns-then-takes_own-clause-stays c = λ stays registry schema t right d.
-    let own = c.get.result.now in
-    let item = item_there c.args.arena.now c.args.node.0 t d in
-    let takes = c.requires.takes own c.get.ensures in
-    let known = known_not_number registry schema c.args.arena.now c.args.types.now right c.args.node.0 own c.get.ensures takes.typed in
-    let same = sym c.if-takes_own.true ∙ c.takes_own.ensures ∙ ap (λ ns. same_types (types_of (typings_at c.args.types.now ns)) (map ty own.operands)) (c.requires.listed item.0 item.1) in
-    listed_strict registry schema c.args.arena.now c.args.types.now right c.args.node.0 own c.get.ensures item.0 item.1 takes.some known true same t d
+returns-then-takes_own-clause-stays c = λ stays. record {
+  is = λ registry schema t right d.
+      let own = c.get.result.now in
+      let item = item_there c.args.arena.now c.args.node.0 t d in
+      let takes = c.requires.takes own c.get.ensures in
+      let known = known_not_number registry schema c.args.arena.now c.args.types.now right c.args.node.0 own c.get.ensures takes.typed in
+      let same = sym c.if-takes_own.true ∙ c.takes_own.ensures ∙ ap (λ ns. same_types (types_of (typings_at c.args.types.now ns)) (map ty own.operands)) (c.requires.listed item.0 item.1) in
+      listed_strict registry schema c.args.arena.now c.args.types.now right c.args.node.0 own c.get.ensures item.0 item.1 takes.some known true same t d;
+  same = refl;
+  keeps = refl;
+}
 
 pub operands_to-requires-clause-ready : goal.operands_to-requires-clause-ready
 operands_to-requires-clause-ready c = λ own keeps.
@@ -53,7 +57,7 @@ returns-clause-over c = λ changed.
     let own = c.get.result.now in
     let made = c.in_ok-operands_to.ensures in
     let differs = sym c.if-takes_own.false ∙ c.takes_own.ensures in
-    can_replace c.args.arena.now c.operands_to.new.arena c.args.types.now c.operands_to.new.types c.args.node.0 own (numbers c.args.operands.now) (numbers c.operands_to.new.operands) c.requires.right c.get.ensures (c.requires.takes own c.get.ensures) made.grows c.requires.listed differs made.changed made.kept made.right made.closed made.added made.once made.extends
+    can_replace c.args.arena.now c.operands_to.new.arena c.args.types.now c.operands_to.new.types c.args.node.0 own (numbers c.args.operands.now) (numbers c.operands_to.new.operands) c.requires.right c.get.ensures (c.requires.takes own c.get.ensures) made.grows c.requires.listed differs made.changed made.kept made.adds made.once
 
 pub returns-clause-count : goal.returns-clause-count
 returns-clause-count c =

@@ -24,29 +24,7 @@ pub returns-in-BinaryExpr-clause-answer : goal.returns-in-BinaryExpr-clause-answ
 returns-in-BinaryExpr-clause-answer c =
     let made = c.change_operands.new.operands in
     let is = ap (layer (BinaryOp c.in-BinaryExpr.op)) (sym (two_listed made (record { 0 = 0 }) c.in_ok-change_operands.ensures.count)) ∙ ap (λ (x : AExpr). layer (op_of (expression_layer x)) (numbers made)) (sym c.in-BinaryExpr.is) in
-    let can = c.in_ok-change_operands.ensures.over c.if-not-branch.false _ (record { before = c.get.result.now; got = c.get.ensures; is = is }) in
-    can.answer
-
-pub returns-in-BinaryExpr-clause-reaches : goal.returns-in-BinaryExpr-clause-reaches
-returns-in-BinaryExpr-clause-reaches c =
-    let made = c.change_operands.new.operands in
-    let is = ap (layer (BinaryOp c.in-BinaryExpr.op)) (sym (two_listed made (record { 0 = 0 }) c.in_ok-change_operands.ensures.count)) ∙ ap (λ (x : AExpr). layer (op_of (expression_layer x)) (numbers made)) (sym c.in-BinaryExpr.is) in
-    let can = c.in_ok-change_operands.ensures.over c.if-not-branch.false _ (record { before = c.get.result.now; got = c.get.ensures; is = is }) in
-    can.reaches
-
-pub returns-in-BinaryExpr-clause-once : goal.returns-in-BinaryExpr-clause-once
-returns-in-BinaryExpr-clause-once c =
-    let made = c.change_operands.new.operands in
-    let is = ap (layer (BinaryOp c.in-BinaryExpr.op)) (sym (two_listed made (record { 0 = 0 }) c.in_ok-change_operands.ensures.count)) ∙ ap (λ (x : AExpr). layer (op_of (expression_layer x)) (numbers made)) (sym c.in-BinaryExpr.is) in
-    let can = c.in_ok-change_operands.ensures.over c.if-not-branch.false _ (record { before = c.get.result.now; got = c.get.ensures; is = is }) in
-    can.once
-
-pub returns-in-BinaryExpr-clause-placed : goal.returns-in-BinaryExpr-clause-placed
-returns-in-BinaryExpr-clause-placed c =
-    let made = c.change_operands.new.operands in
-    let is = ap (layer (BinaryOp c.in-BinaryExpr.op)) (sym (two_listed made (record { 0 = 0 }) c.in_ok-change_operands.ensures.count)) ∙ ap (λ (x : AExpr). layer (op_of (expression_layer x)) (numbers made)) (sym c.in-BinaryExpr.is) in
-    let can = c.in_ok-change_operands.ensures.over c.if-not-branch.false _ (record { before = c.get.result.now; got = c.get.ensures; is = is }) in
-    can.placed
+    c.in_ok-change_operands.ensures.over c.if-not-branch.false _ (record { before = c.get.result.now; got = c.get.ensures; is = is })
 
 pub set_inputs-requires : goal.set_inputs-requires
 set_inputs-requires c =
@@ -58,8 +36,8 @@ set_inputs-requires c =
     let whole = c.as_slice.ensures ∙ take_at made (drop (length made) items) (length items) count in
     ap length whole ∙ count ∙ sym (length-map items (λ n. n.0)) ∙ ap length c.in_ok-operands.ensures.ok ∙ sym (ap length same)
 
-pub returns : goal.returns
-returns c =
+pub returns-clause-answer : goal.returns-clause-answer
+returns-clause-answer c =
     let made = c.change_operands-2.new.operands in
     let changed = c.in_ok-change_operands-2.ensures in
     let stays = item_stays c.args.arena.now c.change_operands-2.new.arena c.args.node.0 c.get-2.result.now c.get-3.result.now c.get-2.ensures changed.grows c.get-3.ensures in
@@ -67,15 +45,4 @@ returns c =
     let count : length made ≡ length items = changed.count ∙ ap length c.as_mut_slice.ensures.value in
     let whole = c.as_slice.ensures ∙ take_at made (drop (length made) items) (length items) count in
     let is = c.set_inputs.ensures.layer ∙ ap (λ l. layer (op_of l) (numbers c.as_slice.result.now)) (c.in_ok-item.ensures.ok ∙ ap expression_layer stays) ∙ ap (λ ns. layer (op_of (expression_layer c.get-2.result.now)) (numbers ns)) whole in
-    let can = changed.over c.if-not-branch-2.false c.set_inputs.new.self (record { before = c.get-2.result.now; got = c.get-2.ensures; is = is }) in
-    record {
-      answer = can.answer;
-      reaches = can.reaches;
-      once = can.once;
-      placed = can.placed;
-      right = changed.right;
-      grows = changed.grows;
-      same = λ e. cc;
-      table = λ e. cc;
-      err = tt;
-    }
+    changed.over c.if-not-branch-2.false c.set_inputs.new.self (record { before = c.get-2.result.now; got = c.get-2.ensures; is = is })

@@ -13,6 +13,7 @@ use Rattle.plan_arena.specs.Denotation.{Denotes}
 use Rattle.plan_arena.specs.Items.{HoldsFrom}
 use Rattle.plan_arena.specs.declared.aexpr.AExpr.TheVariants.{Literal, Alias}
 use Rattle.plan_arena.proofs.ItemLemmas.{expression_got, expression_inputs, length-grown, tree_within}
+use Rattle.plan_coerce.proofs.CoercionLemmas.{adds_nothing}
 use Rattle.plan_coerce.proofs.CoercionRuleLemmas.{alias_settles, literal_settles}
 use Rattle.plan_coerce.proofs.ReachLemmas.{closed_put, closed_start}
 use Rattle.plan_coerce.proofs.SettledLemmas.{number_becomes}
@@ -41,8 +42,8 @@ pub returns-in-Some-of_number-clause-closed : goal.returns-in-Some-of_number-cla
 returns-in-Some-of_number-clause-closed c =
     closed_put c.args.arena.now (c.args.node.0 ∷ []) c.args.arena.now c.args.node.0 (Literal c.in-Some-of_number.value) (tree_within c.args.arena.now c.args.node.0 c.requires.tree) tt (closed_start c.args.arena.now (c.args.node.0 ∷ []))
 
-pub returns-in-Some-of_number-clause-apart : goal.returns-in-Some-of_number-clause-apart
-returns-in-Some-of_number-clause-apart c = closed_start c.args.arena.now []
+pub returns-in-Some-of_number-clause-adds : goal.returns-in-Some-of_number-clause-adds
+returns-in-Some-of_number-clause-adds c = adds_nothing _ c.args.arena.now c.args.types.now
 
 pub returns-in_ok-made-in-Some-alias-clause-settles : goal.returns-in_ok-made-in-Some-alias-clause-settles
 returns-in_ok-made-in-Some-alias-clause-settles c = λ registry schema t d h.
@@ -50,7 +51,7 @@ returns-in_ok-made-in-Some-alias-clause-settles c = λ registry schema t d h.
     let own = ty c.in-Some.own in
     let alone : type_alone (Untyped c.args.number) ≡ Some own = ap literal_type (sym trip) ∙ sym c.in-Some.ensures in
     let made = c.in_ok-made-in-Some-alias in
-    let closed = made.ensures.closed c.args.arena.now [] (omega arith) (closed_start c.args.arena.now []) in
+    let closed = made.ensures.adds.closed c.args.arena.now [] (omega arith) tt (closed_start c.args.arena.now []) in
     alias_settles registry schema c.args.arena.now c.number_under.new.arena c.args.node.0 c.in-Some-alias.below c.get.result.now made.made c.in-Some-alias.name.now c.in_ok-name-in-Some-alias.name c.args.number own alone c.get.ensures c.in-Some-alias.ensures c.in_ok-name-in-Some-alias.ensures.ok made.ensures.grows closed made.ensures.fresh (λ u e. subst (λ m. Denotes (HoldsFrom 0 c.number_under.new.arena) made.made.0 (renamed u (number_as m own))) trip (made.ensures.denotes 0 u zero-le e)) t d h
 
 pub returns-in_ok-made-in-Some-alias-clause-closed : goal.returns-in_ok-made-in-Some-alias-clause-closed
@@ -58,11 +59,7 @@ returns-in_ok-made-in-Some-alias-clause-closed c =
     let made = c.in_ok-made-in-Some-alias in
     let roots = c.args.node.0 ∷ [] in
     let here = tree_within c.args.arena.now c.args.node.0 c.requires.tree in
-    closed_put c.args.arena.now roots c.number_under.new.arena c.args.node.0 (Alias made.made c.in_ok-name-in-Some-alias.name) (omega (arith, here, length-grown c.args.arena.now c.number_under.new.arena made.ensures.grows)) (inl made.ensures.fresh, tt) (made.ensures.closed c.args.arena.now roots (omega arith) (closed_start c.args.arena.now roots))
-
-pub returns-in_ok-made-in-Some-alias-clause-apart : goal.returns-in_ok-made-in-Some-alias-clause-apart
-returns-in_ok-made-in-Some-alias-clause-apart c =
-    c.in_ok-made-in-Some-alias.ensures.closed c.args.arena.now [] (omega arith) (closed_start c.args.arena.now [])
+    closed_put c.args.arena.now roots c.number_under.new.arena c.args.node.0 (Alias made.made c.in_ok-name-in-Some-alias.name) (omega (arith, here, length-grown c.args.arena.now c.number_under.new.arena made.ensures.grows)) (inl made.ensures.fresh, tt) (made.ensures.adds.closed c.args.arena.now roots (omega arith) tt (closed_start c.args.arena.now roots))
 
 pub returns-in-Some-of_number-clause-once : goal.returns-in-Some-of_number-clause-once
 returns-in-Some-of_number-clause-once c =

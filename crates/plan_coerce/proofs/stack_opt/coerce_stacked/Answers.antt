@@ -7,6 +7,7 @@ use Rattle.plan_arena.specs.Items.{HoldsExpression, numbers}
 use Rattle.plan_arena.proofs.DenotationLemmas.{kept}
 use Rattle.plan_arena.proofs.ItemLemmas.{grown_held}
 use Rattle.plan_arena.proofs.NumberLemmas.{all_joined, all_reversed, all_weaker}
+use Rattle.plan_infer.proofs.TableLemmas.{extends_itself, extends_then}
 use Rattle.plan_types.proofs.ResultLemmas.{passed_on}
 use Rattle.plan_coerce.specs.Optimizer.{AreTrees, HasTyping, IsCoercionRefusal}
 use Rattle.plan_coerce.specs.Reaching.{Among}
@@ -16,7 +17,7 @@ use Rattle.plan_coerce.proofs.LoopLemmas.{nothing_done, turns_done}
 use Rattle.plan_coerce.proofs.NearLemmas.{Keeping, here_near, keeping_start, keeping_stops, keeping_turn, stops_apart, waiting_turn}
 use Rattle.plan_coerce.proofs.NumberRootLemmas.{Alone, alone_end, alone_turn, waits}
 use Rattle.plan_coerce.proofs.StackLemmas.{no_numbers, pushed_one}
-use Rattle.plan_coerce.proofs.TurnLemmas.{Pending, memory_alone, no_memory_left, pending_start, pending_stops, pending_turn, stopped_finite, stopped_longer, top_first, turn_stopped}
+use Rattle.plan_coerce.proofs.TurnLemmas.{Pending, memory_alone, no_memory_left, pending_start, pending_stops, pending_turn, stopped_finite, stopped_longer, top_first, turn_stopped, typed_keeps}
 use Rattle.plan_coerce.proofs.TypedRootLemmas.{root_refused}
 use Rattle.plan_coerce.proofs.ManyRootLemmas.{Working, working_end, working_start, working_stops, working_turn, working_typed}
 use Rattle.plan_coerce.proofs.ReachLemmas.{among_all}
@@ -35,6 +36,7 @@ loop-turn-init g c =
       waiting = all_reversed (DenotesTree (HoldsExpression c.args.arena.now)) roots c.requires.trees;
       longer = omega arith;
       right = c.in_ok-type_nodes.ensures.right;
+      kept = λ never typed. extends_itself c.type_nodes.new.types;
       pending = pending_start (rule.settled c.args.rule.now r s) (rule.measure c.args.rule.now r s) (rule.related c.args.rule.now r s) (rule.turns c.args.rule.now) r s (laws.congruent c.args.rule.now r s) (laws.transitive c.args.rule.now r s) (laws.steady c.args.rule.now r s) c.args.arena.now roots;
       settling = settling_start (rule.settled c.args.rule.now r s) (rule.measure c.args.rule.now r s) (rule.related c.args.rule.now r s) (rule.turns c.args.rule.now) r s (laws.congruent c.args.rule.now r s) (laws.steady c.args.rule.now r s) c.args.arena.now roots;
       alone = λ root number many t none is d h. waits (ap reverse is) d;
@@ -77,6 +79,9 @@ loop-turn-preserved g c =
       waiting = waiting_turn settled measure related turns r s c.loop-turn.arena c.visit.new.arena at rest (numbers c.visit.new.stack.items) c.loop-turn.steps c.visit.new.steps turn waiting;
       longer = omega (arith, inv.longer, longer);
       right = c.in_ok-visit.ensures.right;
+      kept = λ never typed.
+          let now = subst (λ l. Pending settled related r s c.args.arena.now c.loop-turn.arena l roots) (popped ∙ top_first rest at) (inv.pending typed) in
+          extends_then c.type_nodes.new.types c.loop-turn.types c.visit.new.types (inv.kept never typed) (typed_keeps (rule.forgets c.args.rule.now) settled r s c.loop-turn.arena c.loop-turn.types c.visit.new.types at never now.waiting.0 c.in_ok-visit.ensures.kept);
       pending = λ typed. pending_turn settled measure related turns r s (laws.congruent c.args.rule.now r s) (laws.transitive c.args.rule.now r s) (laws.steady c.args.rule.now r s) c.args.arena.now c.loop-turn.arena c.visit.new.arena at rest (numbers c.visit.new.stack.items) roots c.loop-turn.steps c.visit.new.steps turn (subst (λ l. Pending settled related r s c.args.arena.now c.loop-turn.arena l roots) popped (inv.pending typed));
       settling = settling_turn settled measure related turns r s (laws.congruent c.args.rule.now r s) (laws.steady c.args.rule.now r s) c.loop-turn.arena c.visit.new.arena at rest (numbers c.visit.new.stack.items) roots c.loop-turn.steps c.visit.new.steps turn waiting (subst (λ l. Settling settled r s c.loop-turn.arena l roots) popped inv.settling);
       alone = λ root number many t none is d h. alone_turn settled measure related turns r s (laws.congruent c.args.rule.now r s) (laws.transitive c.args.rule.now r s) (laws.steady c.args.rule.now r s) none root number many c.loop-turn.arena c.visit.new.arena at rest (numbers c.visit.new.stack.items) c.loop-turn.steps c.visit.new.steps t h turn (subst (λ l. Alone settled related r s c.loop-turn.arena l root t) popped (inv.alone root number many t none is d h));
@@ -114,6 +119,10 @@ returns-in-None-clause-leaves g c =
     let roots = numbers c.args.stack.now.items in
     let inv = c.loop-turn.invariant in
     turns_done settled related turns r s measure c.args.arena.now c.loop-turn.arena (reverse (numbers c.loop-turn.stack.items)) roots c.loop-turn.types c.args.steps.now c.loop-turn.steps inv.finite inv.longer inv.right inv.pending inv.many inv.standing inv.keeping inv.counted
+
+pub returns-in-None-clause-kept : goal.returns-in-None-clause-kept
+returns-in-None-clause-kept g c = λ never typed.
+    extends_then c.args.types.now c.type_nodes.new.types c.loop-turn.types c.in_ok-type_nodes.ensures.kept (c.loop-turn.invariant.kept never typed)
 
 pub returns-in-None-clause-done : goal.returns-in-None-clause-done
 returns-in-None-clause-done g c =

@@ -10,7 +10,7 @@ use Rattle.plan_coerce.specs.Rules.{SettlesNoNumber}
 use Rattle.plan_coerce.proofs.ManyRootLemmas.{Working}
 use Rattle.plan_coerce.proofs.NumberRootLemmas.{Alone}
 use Rattle.plan_infer.specs.KeptTypes.{IsRight}
-use Rattle.plan_coerce.specs.Optimizer.{AreApart, AreRoots, AreTrees, AreTypedRoots, StaysFinite}
+use Rattle.plan_coerce.specs.Optimizer.{AreApart, AreRoots, AreTrees, AreTypedRoots, LoopKeeps, StaysFinite}
 use Rattle.plan_coerce.proofs.AnyRootLemmas.{Settling}
 use Rattle.plan_coerce.proofs.CountLemmas.{Counted}
 use Rattle.plan_coerce.proofs.NearLemmas.{Keeping}
@@ -29,6 +29,7 @@ invariant-loop-turn g l =
       waiting : AreTrees l.arena (reverse (numbers l.stack.items));
       longer : length l.initial.arena ≤ length l.arena;
       right : IsRight registry schema l.arena l.types;
+      kept : LoopKeeps (g.R.OptimizationRule.forgets l.rule) settled registry schema l.initial.arena roots l.initial.types l.types;
       pending : AreTypedRoots settled registry schema l.initial.arena roots → Pending settled (g.R.OptimizationRule.related l.rule registry schema) registry schema l.initial.arena l.arena (reverse (numbers l.stack.items)) roots;
       settling : Settling settled registry schema l.arena (reverse (numbers l.stack.items)) roots;
       alone : (root : ℕ) (number : ℤ) (many : Bool) (t : Expression) → SettlesNoNumber settled registry schema → roots ≡ root ∷ [] → Denotes (HoldsExpression l.initial.arena) root t → typing registry schema t ≡ Ok (record { type = Untyped number; many = many }) → Alone settled (g.R.OptimizationRule.related l.rule registry schema) registry schema l.arena (reverse (numbers l.stack.items)) root t;

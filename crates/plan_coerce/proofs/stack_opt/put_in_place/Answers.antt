@@ -1,8 +1,8 @@
-use Rattle.std.proofs.Common.{◌∙◌, sym, subst}
+use Rattle.std.proofs.Common.{◌∙◌, sym, subst, inl, inr}
 use Rattle.std.proofs.lemmas.Bool.{false≢true}
 use Rattle.plan_infer.specs.KeptTypes.{IsRight}
 use Rattle.plan_infer.proofs.TableLemmas.{right_start}
-use Rattle.plan_coerce.specs.Rules.{KeepsNumber}
+use Rattle.plan_coerce.specs.Rules.{KeepsNone, KeepsNumber}
 use Rattle.plan_coerce.proofs.stack_opt.put_in_place.Goals.{then-keeps_number, else-keeps_number}
 use Rattle.plan_coerce.proofs.stack_opt.put_in_place.Goals as goal
 
@@ -15,7 +15,7 @@ returns-clause-right c = λ registry schema right.
     ]
 
 pub returns-clause-kept : goal.returns-clause-kept
-returns-clause-kept c = λ none. elim c.if-keeps_number.branch [
-  | then-keeps_number w ↦ absurd (none (c.keeps_number.ensures.0 w.if-keeps_number.true))
-  | else-keeps_number w ↦ w.types-is
+returns-clause-kept c = elim c.if-keeps_number.branch [
+  | then-keeps_number w ↦ inr (c.keeps_number.ensures.0 w.if-keeps_number.true, subst KeepsNone (sym w.types-is) w.clear.ensures)
+  | else-keeps_number w ↦ inl w.types-is
 ]

@@ -5,7 +5,7 @@ use Rattle.plan_dsl.specs.Registry.{registry}
 use Rattle.plan_arena.specs.Denotation.{DenotesTree}
 use Rattle.plan_arena.specs.Items.{HoldsExpression, numbers}
 use Rattle.plan_arena.proofs.NumberLemmas.{number_at}
-use Rattle.plan_infer.proofs.TableLemmas.{all_at, all_taken}
+use Rattle.plan_infer.proofs.TableLemmas.{all_at, all_taken, extends_then}
 use Rattle.plan_coerce.specs.Optimizer.{HasTyping}
 use Rattle.plan_coerce.proofs.TypedRootLemmas.{among_at, kept_has_typing}
 use Rattle.plan_coerce.proofs.stack_opt.type_nodes.Goals as goal
@@ -28,4 +28,8 @@ loop-node-preserved g c =
     record {
       typed = all_taken (HasTyping r s c.args.arena.now) c.args.nodes.now c.loop-node.node-index (c.loop-node.node-index + 1) (record { 0 = 0 }) (omega arith) c.loop-node.invariant.typed c.loop-node-test.true (kept_has_typing r s c.args.arena.now c.infer_once.new.types _ done.right done.kept);
       right = done.right;
+      kept = extends_then c.args.types.now c.loop-node.types c.infer_once.new.types c.loop-node.invariant.kept c.infer_once.ensures.extends;
     }
+
+pub returns-in_err-infer_once-clause-kept : goal.returns-in_err-infer_once-clause-kept
+returns-in_err-infer_once-clause-kept g c = extends_then c.args.types.now c.loop-node.types c.infer_once.new.types c.loop-node.invariant.kept c.infer_once.ensures.extends

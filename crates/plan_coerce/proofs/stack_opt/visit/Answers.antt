@@ -1,11 +1,11 @@
-use Rattle.std.proofs.Common.{◌<◌, length, arith, inr}
+use Rattle.std.proofs.Common.{◌<◌, length, arith, inl, inr, ⊎_elim}
 use Rattle.plan_types.specs.Schemas.{columns}
 use Rattle.plan_dsl.specs.Registry.{registry}
 use Rattle.plan_arena.specs.Items.{numbers}
 use Rattle.plan_arena.proofs.ItemLemmas.{length-grown, tree_within}
 use Rattle.plan_coerce.specs.Turns.{finds, places}
 use Rattle.plan_coerce.proofs.StackLemmas.{pushed, pushed_one}
-use Rattle.plan_coerce.proofs.TurnLemmas.{found_now, on_refusal, placed_now, some_said}
+use Rattle.plan_coerce.proofs.TurnLemmas.{found_now, on_refusal, placed_keeps, placed_now, some_said}
 use Rattle.plan_coerce.proofs.stack_opt.visit.Goals as goal
 
 pub get-requires : goal.get-requires
@@ -40,3 +40,15 @@ returns-in_err-push-in-Some-clause-stopped g c =
 pub returns-in_err-push-in-Some-clause-right : goal.returns-in_err-push-in-Some-clause-right
 returns-in_err-push-in-Some-clause-right g c =
     c.put_in_place.ensures.right (registry c.args.udfs.now) (columns c.args.schema.now) (some_said _ _ c.in_ok-optimize_expr.field-0 c.in-Some.item c.in-Some.is c.in_ok-optimize_expr.ensures.placed)
+
+pub returns-then-push_below-clause-kept : goal.returns-then-push_below-clause-kept
+returns-then-push_below-clause-kept g c = λ never.
+    ⊎_elim (λ extends. inl extends) (λ f. absurd (f.0.0 c.in-None.is)) c.in_ok-optimize_expr.ensures.kept
+
+pub returns-in_ok-push-in-Some-clause-kept : goal.returns-in_ok-push-in-Some-clause-kept
+returns-in_ok-push-in-Some-clause-kept g c =
+    let made = c.in_ok-optimize_expr.ensures in
+    let r = registry c.args.udfs.now in
+    let s = columns c.args.schema.now in
+    let rule = g.R.OptimizationRule in
+    placed_keeps (rule.forgets c.args.rule.now) (rule.settled c.args.rule.now r s) r s c.args.arena.now c.optimize_expr.new.expr_arena c.args.types.now c.optimize_expr.new.types c.put_in_place.new.types c.args.node.0 c.in_ok-optimize_expr.field-0 c.in-Some.item c.in-Some.is made.grows made.right made.kept made.numbers c.requires.tree c.put_in_place.ensures.kept

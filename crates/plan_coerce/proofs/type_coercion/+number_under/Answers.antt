@@ -42,29 +42,27 @@ returns-in_ok-alias-in-Some-clause-denotes t c = λ first tree le d.
     let named = c.in_ok-alias-in-Some.ensures.denotes first (renamed under.0 other) later made in
     subst (Denotes (HoldsFrom first c.add_alias.new.arena) c.in_ok-alias-in-Some.alias.0) (ap (λ name. node (AliasOp name) (more (renamed under.0 other) no_more)) (c.in_ok-name-in-Some.ensures.ok) ∙ sym under.1) named
 
-pub returns-in_ok-alias-in-Some-clause-closed : goal.returns-in_ok-alias-in-Some-clause-closed
-returns-in_ok-alias-in-Some-clause-closed t c = λ start roots le closed.
-    let fresh = c.in_ok-made-in-Some.ensures.fresh in
-    c.in_ok-alias-in-Some.ensures.closed start roots (inl (omega (arith, le, fresh))) (c.in_ok-made-in-Some.ensures.closed start roots le closed)
-
-pub returns-in_ok-alias-in-Some-clause-extends :
-    goal.returns-in_ok-alias-in-Some-clause-extends
-returns-in_ok-alias-in-Some-clause-extends t c =
-    extends_then c.args.types.now c.number_under.new.types c.add_alias.new.types c.in_ok-made-in-Some.ensures.extends c.in_ok-alias-in-Some.ensures.extends
-
 pub returns-in_ok-alias-in-Some-clause-grows : goal.returns-in_ok-alias-in-Some-clause-grows
 returns-in_ok-alias-in-Some-clause-grows t c =
     grows_then c.args.arena.now c.number_under.new.arena c.add_alias.new.arena c.in_ok-made-in-Some.ensures.grows c.in_ok-alias-in-Some.ensures.grows
 
-pub returns-in_ok-alias-in-Some-clause-added : goal.returns-in_ok-alias-in-Some-clause-added
-returns-in_ok-alias-in-Some-clause-added t c = λ registry schema start le right before.
+pub returns-in_ok-alias-in-Some-clause-adds : goal.returns-in_ok-alias-in-Some-clause-adds
+returns-in_ok-alias-in-Some-clause-adds t c =
     let mid = c.number_under.new.arena in
     let made = c.in_ok-made-in-Some in
-    let right' = made.ensures.right registry schema right in
-    let before' = made.ensures.added registry schema start le right before in
-    let within = kept_within mid c.number_under.new.types made.made.0 (record { registry = registry; schema = schema; right = right' }) made.ensures.kept in
-    let strict = before' made.made.0 (omega (arith, le, made.ensures.fresh)) within in
-    c.in_ok-alias-in-Some.ensures.added registry schema start (omega (arith, le, length-grown c.args.arena.now mid made.ensures.grows)) right' strict.0 before'
+    let adds = made.ensures.adds in
+    let alias = c.in_ok-alias-in-Some.ensures in
+    record {
+      right = λ registry schema right. alias.right registry schema (adds.right registry schema right);
+      closed = λ start roots le near closed. alias.closed start roots (inl (omega (arith, le, made.ensures.fresh))) (adds.closed start roots le near closed);
+      added = λ registry schema start le right before.
+          let right' = adds.right registry schema right in
+          let before' = adds.added registry schema start le right before in
+          let within = kept_within mid c.number_under.new.types made.made.0 (record { registry = registry; schema = schema; right = right' }) made.ensures.kept in
+          let strict = before' made.made.0 (omega (arith, le, made.ensures.fresh)) within in
+          alias.added registry schema start (omega (arith, le, length-grown c.args.arena.now mid made.ensures.grows)) right' strict.0 before';
+      extends = extends_then c.args.types.now c.number_under.new.types c.add_alias.new.types adds.extends alias.extends;
+    }
 
 pub returns-in_ok-alias-in-Some-clause-once : goal.returns-in_ok-alias-in-Some-clause-once
 returns-in_ok-alias-in-Some-clause-once t c =

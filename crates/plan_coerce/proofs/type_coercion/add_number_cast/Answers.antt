@@ -15,7 +15,8 @@ use Rattle.plan_arena.proofs.DenotationLemmas.{some_same}
 use Rattle.plan_arena.proofs.ItemLemmas.{any_node, length-grown}
 use Rattle.plan_infer.proofs.TableLemmas.{extends_then, type_of}
 use Rattle.plan_coerce.proofs.CoercionLemmas.{literal_is, own_literal}
-use Rattle.plan_coerce.proofs.RightLemmas.{lacks_apart, literal_kept}
+use Rattle.plan_coerce.proofs.KindLemmas.{lacks_apart}
+use Rattle.plan_coerce.proofs.RightLemmas.{literal_kept}
 use Rattle.plan_coerce.proofs.type_coercion.add_number_cast.Goals as goal
 
 pub returns-clause-denotes : goal.returns-clause-denotes

@@ -8,7 +8,7 @@ use Rattle.plan_types.specs.declared.dtype.DataType.{DataType}
 use Rattle.plan_dsl.specs.Strictness.{CanBecome}
 use Rattle.plan_infer.proofs.TableLemmas.{known_typed, plain_tree, type_of}
 use Rattle.plan_coerce.specs.Coercion.{IsChanged}
-use Rattle.plan_coerce.proofs.CoercionLemmas.{becomes_cast, cast_round, changed_from, number_for, ready_becomes, same_target, stays_as}
+use Rattle.plan_coerce.proofs.CoercionLemmas.{adds_alone, adds_nothing, becomes_cast, cast_round, changed_from, number_for, ready_becomes, same_target, stays_as}
 use Rattle.plan_coerce.proofs.OnceLemmas.{cast_once, itself_once, number_once}
 use Rattle.plan_coerce.proofs.type_coercion.operand_to.Goals as goal
 
@@ -31,53 +31,42 @@ returns-then-is_same-clause-changed c = λ own target from keeps there known.
 pub returns-then-is_same-clause-once : goal.returns-then-is_same-clause-once
 returns-then-is_same-clause-once c = itself_once c.args.arena.now c.args.input.0
 
+pub returns-then-is_same-clause-adds : goal.returns-then-is_same-clause-adds
+returns-then-is_same-clause-adds c = adds_nothing _ c.args.arena.now c.args.types.now
+
 pub put_cast-requires : goal.put_cast-requires
 put_cast-requires c = (c.get-from.result.now, c.get-from.ensures, c.in_ok-try_clone-in-None.ensures.ok ∙ sym c.in_ok-target-in-None.ensures.ok, refl, refl, c.none.ensures)
 
-pub returns-in_ok-made-in-None-clause-changed : goal.returns-in_ok-made-in-None-clause-changed
-returns-in_ok-made-in-None-clause-changed c = λ own target from keeps there known.
+pub returns-in_ok-made-in-None : goal.returns-in_ok-made-in-None
+returns-in_ok-made-in-None c =
     let types = c.args.types.now in
     let from0 = c.get-from.result.now in
     let is0 = type_of types c.args.input.0 from0 c.get-from.ensures in
     let at = c.requires.ready c.get.result.now c.get.ensures in
     let apart = sym c.is_same.ensures ∙ c.if-is_same.false in
     let copied = c.in_ok-target-in-None.ensures.ok in
-    let can = ready_becomes types c.args.input.0 c.get.result.now.operands c.args.index from0.dtype c.operand-target.result.now (ty c.in_ok-target-in-None.target) at c.operand-target.ensures copied is0 apart in
-    let casts = becomes_cast (ty from0.dtype) (ty c.in_ok-target-in-None.target) can c.in-None.ensures in
-    let made = c.in_ok-made-in-None in
-    let is = same_target types c.args.node.0 c.get.result.now own c.args.index c.operand-target.result.now target c.get.ensures keeps c.operand-target.ensures there in
+    let target = ty c.in_ok-target-in-None.target in
+    let can = ready_becomes types c.args.input.0 c.get.result.now.operands c.args.index from0.dtype c.operand-target.result.now target at c.operand-target.ensures copied is0 apart in
+    let casts = becomes_cast (ty from0.dtype) target can c.in-None.ensures in
     let other = ap (same_type (ty from0.dtype)) copied ∙ apart in
-    let here = changed_from c.args.arena.now c.put_cast.new.arena types c.args.input.0 made.made.0 from0.dtype from (ty c.in_ok-target-in-None.target) is0 known (cast_round c.args.arena.now c.put_cast.new.arena types c.args.input.0 made.made.0 from0.dtype (ty c.in_ok-target-in-None.target) is0 other casts.0 made.ensures.fresh made.ensures.denotes) in
-    subst (λ t. IsChanged c.args.arena.now c.put_cast.new.arena types (record { input = c.args.input.0; changed = made.made.0; from = ty from; target = t })) (copied ∙ ap ty is) here
-
-pub returns-in_ok-made-in-None-clause-right : goal.returns-in_ok-made-in-None-clause-right
-returns-in_ok-made-in-None-clause-right c = λ registry schema right.
-    let types = c.args.types.now in
-    let from0 = c.get-from.result.now in
-    let is0 = type_of types c.args.input.0 from0 c.get-from.ensures in
-    let at = c.requires.ready c.get.result.now c.get.ensures in
-    let apart = sym c.is_same.ensures ∙ c.if-is_same.false in
-    let copied = c.in_ok-target-in-None.ensures.ok in
-    let can = ready_becomes types c.args.input.0 c.get.result.now.operands c.args.index from0.dtype c.operand-target.result.now (ty c.in_ok-target-in-None.target) at c.operand-target.ensures copied is0 apart in
-    let casts = becomes_cast (ty from0.dtype) (ty c.in_ok-target-in-None.target) can c.in-None.ensures in
-    c.in_ok-made-in-None.ensures.right registry schema from0.dtype is0 casts.0 casts.1 right
-
-pub returns-in_ok-made-in-None-clause-added : goal.returns-in_ok-made-in-None-clause-added
-returns-in_ok-made-in-None-clause-added c = λ registry schema start le right before.
-    let types = c.args.types.now in
-    let from0 = c.get-from.result.now in
-    let is0 = type_of types c.args.input.0 from0 c.get-from.ensures in
-    let at = c.requires.ready c.get.result.now c.get.ensures in
-    let apart = sym c.is_same.ensures ∙ c.if-is_same.false in
-    let copied = c.in_ok-target-in-None.ensures.ok in
-    let can = ready_becomes types c.args.input.0 c.get.result.now.operands c.args.index from0.dtype c.operand-target.result.now (ty c.in_ok-target-in-None.target) at c.operand-target.ensures copied is0 apart in
-    c.in_ok-made-in-None.ensures.added registry schema start from0 le right can.known c.get-from.ensures (ap (same_type (ty from0.dtype)) copied ∙ apart) before
-
-pub returns-in_ok-made-in-None-clause-closed : goal.returns-in_ok-made-in-None-clause-closed
-returns-in_ok-made-in-None-clause-closed c = λ start roots le near closed. c.in_ok-made-in-None.ensures.closed start roots near closed
-
-pub returns-in_ok-made-in-None-clause-once : goal.returns-in_ok-made-in-None-clause-once
-returns-in_ok-made-in-None-clause-once c = cast_once c.args.arena.now c.put_cast.new.arena c.args.input.0 c.in_ok-made-in-None.made.0 c.in_ok-made-in-None.ensures.once
+    let cast = c.in_ok-made-in-None.made.0 in
+    let made = c.in_ok-made-in-None.ensures in
+    record {
+      changed = λ own to from keeps there known.
+          let is = same_target types c.args.node.0 c.get.result.now own c.args.index c.operand-target.result.now to c.get.ensures keeps c.operand-target.ensures there in
+          let here = changed_from c.args.arena.now c.put_cast.new.arena types c.args.input.0 cast from0.dtype from target is0 known (cast_round c.args.arena.now c.put_cast.new.arena types c.args.input.0 cast from0.dtype target is0 other casts.0 made.fresh made.denotes) in
+          subst (λ t. IsChanged c.args.arena.now c.put_cast.new.arena types (record { input = c.args.input.0; changed = cast; from = ty from; target = t })) (copied ∙ ap ty is) here;
+      kept = made.kept;
+      adds = record {
+        right = λ registry schema. made.right registry schema from0.dtype is0 casts.0 casts.1;
+        closed = λ start roots le near. made.closed start roots near;
+        added = λ registry schema start le right before. made.added registry schema start from0 le right can.known c.get-from.ensures other before;
+        extends = made.extends;
+      };
+      once = cast_once c.args.arena.now c.put_cast.new.arena c.args.input.0 cast made.once;
+      grows = made.grows;
+      err = tt;
+    }
 
 -- ---- a number without a type
 
@@ -114,6 +103,9 @@ returns-in_ok-made-in-Some-clause-changed c = λ own target from keeps there kno
     let other = ap (same_type (ty from0.dtype)) copied ∙ apart in
     let here = changed_from c.args.arena.now c.number_under.new.arena types c.args.input.0 made.made.0 from0.dtype from (ty c.in_ok-target-in-Some.target) is0 known (number_for c.args.arena.now c.number_under.new.arena types c.args.input.0 made.made.0 from0.dtype (ty c.in_ok-target-in-Some.target) _ is0 other untyped made.ensures.fresh made.ensures.denotes) in
     subst (λ t. IsChanged c.args.arena.now c.number_under.new.arena types (record { input = c.args.input.0; changed = made.made.0; from = ty from; target = t })) (copied ∙ ap ty is) here
+
+pub returns-in_ok-made-in-Some-clause-adds : goal.returns-in_ok-made-in-Some-clause-adds
+returns-in_ok-made-in-Some-clause-adds c = adds_alone _ _ _ _ _ c.in_ok-made-in-Some.ensures.adds
 
 pub returns-in_ok-made-in-Some-clause-once : goal.returns-in_ok-made-in-Some-clause-once
 returns-in_ok-made-in-Some-clause-once c = number_once c.args.arena.now c.number_under.new.arena c.args.input.0 c.in_ok-made-in-Some.made.0 c.in_ok-made-in-Some.ensures.once

@@ -1,16 +1,15 @@
-use Rattle.std.proofs.Common.{subst, sym, ◌∙◌}
+use Rattle.std.proofs.Common.{inl, sym, ◌∙◌}
 use Rattle.std.proofs.lemmas.Bool.{and_from}
 use Rattle.plan_types.specs.Schemas.{columns}
 use Rattle.plan_dsl.specs.Registry.{registry}
 use Rattle.plan_arena.proofs.ItemLemmas.{tree_within}
-use Rattle.plan_infer.specs.KeptTypes.{Extends}
 use Rattle.plan_infer.proofs.TableLemmas.{extends_itself, right_start}
 use Rattle.plan_coerce.specs.Coercion.{coerced}
 use Rattle.plan_coerce.specs.InlinedCasts.{stays}
-use Rattle.plan_coerce.specs.Rules.{is_strict_node, said}
-use Rattle.plan_coerce.proofs.CoercionRuleLemmas.{known_not_number, kept_strict}
+use Rattle.plan_coerce.specs.Rules.{is_settled, is_strict_node, said}
+use Rattle.plan_coerce.proofs.CoercionRuleLemmas.{answer_keeps, answer_right, answer_with, known_not_number, kept_strict}
 use Rattle.plan_coerce.proofs.SettledLemmas.{settled_no_number}
-use Rattle.plan_coerce.proofs.ToldLemmas.{not_cast_stays}
+use Rattle.plan_coerce.proofs.ToldLemmas.{none_said, not_cast_stays}
 use Rattle.plan_coerce.proofs.coercion_rule.TypeCoercionRuleOptimizationRule.optimize_expr.Goals as goal
 
 pub returns-in-Ok-clause-numbers : goal.returns-in-Ok-clause-numbers
@@ -36,7 +35,34 @@ returns-then-not-is_cast-clause-answer g c = λ t d.
     and_from (said (is_strict_node registry schema) registry schema t) (stays (coerced registry schema t)) strict (not_cast_stays registry schema items n c.get.result.now c.get.ensures (sym c.is_cast.ensures ∙ c.if-not-is_cast.true) t d)
 
 pub returns-then-not-is_cast-clause-kept : goal.returns-then-not-is_cast-clause-kept
-returns-then-not-is_cast-clause-kept g c = λ none. extends_itself c.args.types.now
+returns-then-not-is_cast-clause-kept g c = inl (extends_itself c.args.types.now)
+
+pub returns-in-Ok-clause-answer : goal.returns-in-Ok-clause-answer
+returns-in-Ok-clause-answer g c = λ t d.
+    let r = registry c.args.udfs.now in
+    let s = columns c.args.schema.now in
+    let right = c.infer_once.ensures.right in
+    answer_with _ _ _ _ c.in-Ok.answer c.in-Ok.ensures.answer (λ stays. stays.is r s t right d) (λ item can. can.answer r s t right d)
+
+pub returns-in-Ok-clause-reaches : goal.returns-in-Ok-clause-reaches
+returns-in-Ok-clause-reaches g c = answer_with _ _ _ _ c.in-Ok.answer c.in-Ok.ensures.answer (λ stays. tt) (λ item can n turns. can.reaches)
+
+pub returns-in-Ok-clause-once : goal.returns-in-Ok-clause-once
+returns-in-Ok-clause-once g c = answer_with _ _ _ _ c.in-Ok.answer c.in-Ok.ensures.answer (λ stays. tt) (λ item can n turns. can.once)
+
+pub returns-in-Ok-clause-same : goal.returns-in-Ok-clause-same
+returns-in-Ok-clause-same g c = λ none.
+    let stays = none_said _ _ c.in-Ok.answer none c.in-Ok.ensures.answer in
+    stays.same
 
 pub returns-in-Ok-clause-kept : goal.returns-in-Ok-clause-kept
-returns-in-Ok-clause-kept g c = λ none. subst (Extends c.args.types.now) (sym (c.in-Ok.ensures.table none)) c.infer_once.ensures.extends
+returns-in-Ok-clause-kept g c =
+    answer_keeps is_settled c.args.expr_arena.now c.replacement.new.arena c.infer_once.new.types c.replacement.new.types c.args.node.0 c.args.types.now c.infer_once.ensures.extends c.in-Ok.answer c.in-Ok.ensures.answer
+
+pub returns-in-Ok-clause-right : goal.returns-in-Ok-clause-right
+returns-in-Ok-clause-right g c =
+    answer_right is_settled c.args.expr_arena.now c.replacement.new.arena c.infer_once.new.types c.replacement.new.types c.args.node.0 c.in-Ok.answer c.in-Ok.ensures.answer (registry c.args.udfs.now) (columns c.args.schema.now) c.infer_once.ensures.right
+
+pub returns-in-Ok-clause-placed : goal.returns-in-Ok-clause-placed
+returns-in-Ok-clause-placed g c =
+    answer_with _ _ _ _ c.in-Ok.answer c.in-Ok.ensures.answer (λ stays. tt) (λ item can number. can.placed (registry c.args.udfs.now) (columns c.args.schema.now) c.infer_once.ensures.right number)

@@ -17,7 +17,7 @@ use Rattle.plan_arena.specs.Denotation.{Denotes}
 use Rattle.plan_arena.specs.Layers.{layer}
 use Rattle.plan_arena.specs.Items.{HoldsExpression}
 use Rattle.plan_arena.proofs.ItemLemmas.{got_held}
-use Rattle.plan_coerce.specs.Optimizer.{DenotesLike, IsWrittenOut}
+use Rattle.plan_coerce.specs.Optimizer.{IsWrittenOut}
 use Rattle.plan_coerce.specs.Rules.{HasSameWritten}
 use Rattle.plan_infer.specs.Samples.{int8, int32, int64, columns_of, two_columns, of_type, a, b, binary, cast_to, sum, pair, columns_and, sum_items}
 use Rattle.plan_coerce.specs.Samples.{strict_sum, cast_of, strict_items}
@@ -44,22 +44,6 @@ wide_denotes = (3 ∷ 4 ∷ [], refl, ((0 ∷ [], refl, (column_denotes wide 0 (
 
 turned_denotes : Denotes (HoldsExpression turned) 2 (binary Plus b (cast_to int32 a))
 turned_denotes = (1 ∷ 3 ∷ [], refl, (column_denotes turned 1 (codes "b") refl, ((0 ∷ [], refl, (column_denotes turned 0 (codes "a") refl, tt)), tt)))
-
-no_item : {A : Type 0} (n : ℕ) (x : A) → slice_get [] n ≡ Some x → ⊥
-no_item n x e = cc
-
-no_node : (n : ℕ) (t : Expression) → Denotes (HoldsExpression sum_items) (suc (suc (suc n))) t → ⊥
-no_node n (node op ts) d = no_item n _ d.1
-
--- the columns stay, and the sum becomes one that says the same
-kept : (n : ℕ) (t : Expression) → Denotes (HoldsExpression sum_items) n t → DenotesLike (HasSameWritten [] two_columns) [] two_columns strict_items n t
-kept zero t d = subst (DenotesLike (HasSameWritten [] two_columns) [] two_columns strict_items 0) (sym (one_denoted sum_items 0 t a d (column_denotes sum_items 0 (codes "a") refl)))
-    (record { tree = a; denotes = column_denotes strict_items 0 (codes "a") refl; like = record { same = record { typing = refl; name = refl; meaning = λ rows is. refl }; relates = refl } })
-kept (suc zero) t d = subst (DenotesLike (HasSameWritten [] two_columns) [] two_columns strict_items 1) (sym (one_denoted sum_items 1 t b d (column_denotes sum_items 1 (codes "b") refl)))
-    (record { tree = b; denotes = column_denotes strict_items 1 (codes "b") refl; like = record { same = record { typing = refl; name = refl; meaning = λ rows is. refl }; relates = refl } })
-kept (suc (suc zero)) t d = subst (DenotesLike (HasSameWritten [] two_columns) [] two_columns strict_items 2) (sym (one_denoted sum_items 2 t sum d before_denotes))
-    (record { tree = strict_sum; denotes = after_denotes; like = record { same = record { typing = refl; name = refl; meaning = λ rows is. refl }; relates = refl } })
-kept (suc (suc (suc n))) t d = absurd (no_node n t d)
 
 pub returns-clause-cast : goal.returns-clause-cast
 returns-clause-cast c = record {

@@ -3,14 +3,11 @@ use Rattle.plan_types.specs.declared.dtype.CastOptions.TheVariants.{NonStrict}
 use Rattle.plan_dsl.specs.Ops.{CastOp}
 use Rattle.plan_dsl.specs.Trees.{no_more, more}
 use Rattle.plan_infer.specs.Samples.{int8, int32, two_columns, a, cast_to, sum}
-use Rattle.plan_coerce.specs.CoercedLaws.{same_written_congruent, settled_steady}
-use Rattle.plan_coerce.specs.Rules.{HasSameWritten, IsLike}
+use Rattle.plan_coerce.specs.CoercedLaws.{coercion_congruent, same_written_over, settled_steady}
+use Rattle.plan_coerce.specs.Rules.{HasSameWritten}
 use Rattle.plan_coerce.specs.Samples.{strict_sum}
-use Rattle.plan_coerce.proofs.ExampleLemmas.{other_label}
+use Rattle.plan_coerce.proofs.ExampleLemmas.{other_label, sums_alike}
 use Rattle.plan_coerce.proofs.examples.optimizer.expressions_that_are_alike.Goals as goal
-
-sums_alike : IsLike (HasSameWritten [] two_columns) [] two_columns sum strict_sum
-sums_alike = record { same = record { typing = refl; name = refl; meaning = λ rows is. refl }; relates = refl }
 
 pub returns-clause-cast : goal.returns-clause-cast
 returns-clause-cast c = sums_alike
@@ -22,7 +19,10 @@ pub returns-clause-other_name : goal.returns-clause-other_name
 returns-clause-other_name c = λ like. other_label like.same.name
 
 pub returns-clause-same_written : goal.returns-clause-same_written
-returns-clause-same_written c = same_written_congruent [] two_columns
+returns-clause-same_written c = same_written_over (HasSameWritten [] two_columns) [] two_columns (λ t u same. same)
+
+pub returns-clause-coerced : goal.returns-clause-coerced
+returns-clause-coerced c = coercion_congruent [] two_columns
 
 no_column : cast_to int32 a ≡ a → ⊥
 no_column e = cc
@@ -32,7 +32,7 @@ returns-clause-one_column_alone c = λ congruent.
     no_column (congruent (CastOp int32 NonStrict) (more a no_more) (more a no_more) (record { same = record { typing = refl; name = refl; meaning = λ rows is. refl }; relates = refl }, tt))
 
 pub returns-clause-settled_nodes : goal.returns-clause-settled_nodes
-returns-clause-settled_nodes c = settled_steady [] two_columns
+returns-clause-settled_nodes c = settled_steady (HasSameWritten [] two_columns) [] two_columns (λ t u same. same)
 
 pub returns-clause-strict_throughout : goal.returns-clause-strict_throughout
 returns-clause-strict_throughout c = λ steady.
