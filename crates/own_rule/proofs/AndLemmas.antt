@@ -83,7 +83,7 @@ module _ (registry : Registry) (schema : Columns) (a b : Expression) (m n : Bool
   and_same = record {
     typing = ap (λ r. then_typed r (typing_rule registry schema (BinaryOp And))) typed_so ∙ sym (ap (λ r. then_typed r (typing_rule registry schema (BinaryOp LogicalAnd))) typed_so);
     name = refl;
-    meaning = λ rows is i numbers.
+    meaning = λ rows is numbers within i.
         (let frame : Frame = record { schema = schema; rows = rows } in
         let first = meaning registry frame a in
         let second = meaning registry frame b in

@@ -26,7 +26,7 @@ use std::sync::ledger::Ledger;
 
 /// `LogicalAnd` of two operands of truth values is made `And`, which engines have for columns. Both give the same there,
 /// since what a typed operand gives on a frame fits its type: on other values, as of two numbers, they differ. So this rule
-/// stands on it that meanings are compared on frames of the schema alone.
+/// stands on it that meanings are compared on the rows of frames of the schema alone.
 #[derive(Clone, Copy, Drop)]
 pub struct PlainAndRule;
 

@@ -137,7 +137,7 @@ pub sum_replaced : IsReplacement (HasSameWritten [] two_columns) (until_settled 
 sum_replaced = record {
   tree = strict_sum;
   denotes = strict_denotes;
-  like = λ typed is. record { same = record { typing = refl; name = refl; meaning = λ rows is. refl }; relates = refl };
+  like = λ typed is. record { same = record { typing = refl; name = refl; meaning = λ rows is numbers within. refl }; relates = refl };
   ill_typed = λ kind is. let differs : Ok (of_type int32) ≡ Err kind = is in cc;
   known = λ typed is. known_one _ typed (record { typed = of_type int32; is = refl; known = refl }) is;
   falls = omega arith;

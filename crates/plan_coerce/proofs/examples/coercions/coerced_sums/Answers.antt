@@ -54,11 +54,11 @@ no_node n (node op ts) d = no_item n _ d.1
 -- the columns stay, and the sum becomes one that says the same
 kept : (n : ℕ) (t : Expression) → Denotes (HoldsExpression sum_items) n t → DenotesLike (HasSameWritten [] two_columns) [] two_columns strict_items n t
 kept zero t d = subst (DenotesLike (HasSameWritten [] two_columns) [] two_columns strict_items 0) (sym (one_denoted sum_items 0 t a d (column_denotes sum_items 0 (codes "a") refl)))
-    (record { tree = a; denotes = column_denotes strict_items 0 (codes "a") refl; like = record { same = record { typing = refl; name = refl; meaning = λ rows is. refl }; relates = refl } })
+    (record { tree = a; denotes = column_denotes strict_items 0 (codes "a") refl; like = record { same = record { typing = refl; name = refl; meaning = λ rows is numbers within. refl }; relates = refl } })
 kept (suc zero) t d = subst (DenotesLike (HasSameWritten [] two_columns) [] two_columns strict_items 1) (sym (one_denoted sum_items 1 t b d (column_denotes sum_items 1 (codes "b") refl)))
-    (record { tree = b; denotes = column_denotes strict_items 1 (codes "b") refl; like = record { same = record { typing = refl; name = refl; meaning = λ rows is. refl }; relates = refl } })
+    (record { tree = b; denotes = column_denotes strict_items 1 (codes "b") refl; like = record { same = record { typing = refl; name = refl; meaning = λ rows is numbers within. refl }; relates = refl } })
 kept (suc (suc zero)) t d = subst (DenotesLike (HasSameWritten [] two_columns) [] two_columns strict_items 2) (sym (one_denoted sum_items 2 t sum d before_denotes))
-    (record { tree = strict_sum; denotes = after_denotes; like = record { same = record { typing = refl; name = refl; meaning = λ rows is. refl }; relates = refl } })
+    (record { tree = strict_sum; denotes = after_denotes; like = record { same = record { typing = refl; name = refl; meaning = λ rows is numbers within. refl }; relates = refl } })
 kept (suc (suc (suc n))) t d = absurd (no_node n t d)
 
 pub returns-clause-cast : goal.returns-clause-cast
@@ -111,7 +111,7 @@ returns-clause-item_below c = λ coerced.
     other_name (column_name (codes "b") (codes "a") (coerced.below 0 (ColumnOp (codes "a")) [] (λ le. omega (arith, le)) refl))
 
 pub returns-clause-nothing_done : goal.returns-clause-nothing_done
-returns-clause-nothing_done c = λ n t d. record { tree = t; denotes = d; like = record { same = record { typing = refl; name = refl; meaning = λ rows is. refl }; relates = refl } }
+returns-clause-nothing_done c = λ n t d. record { tree = t; denotes = d; like = record { same = record { typing = refl; name = refl; meaning = λ rows is numbers within. refl }; relates = refl } }
 
 pub returns-clause-other_tree : goal.returns-clause-other_tree
 returns-clause-other_tree c = λ stays.
@@ -125,7 +125,7 @@ pub returns-clause-items_below : goal.returns-clause-items_below
 returns-clause-items_below c = kept_first
 
 pub returns-clause-same : goal.returns-clause-same
-returns-clause-same c = record { tree = a; denotes = ([], refl, tt); like = record { same = record { typing = refl; name = refl; meaning = λ rows is. refl }; relates = refl } }
+returns-clause-same c = record { tree = a; denotes = ([], refl, tt); like = record { same = record { typing = refl; name = refl; meaning = λ rows is numbers within. refl }; relates = refl } }
 
 pub returns-clause-not_same : goal.returns-clause-not_same
 returns-clause-not_same c = λ found.

@@ -10,7 +10,7 @@ use Rattle.plan_coerce.proofs.ExampleLemmas.{other_label}
 use Rattle.plan_coerce.proofs.examples.optimizer.expressions_that_are_alike.Goals as goal
 
 sums_alike : IsLike (HasSameWritten [] two_columns) [] two_columns sum strict_sum
-sums_alike = record { same = record { typing = refl; name = refl; meaning = λ rows is. refl }; relates = refl }
+sums_alike = record { same = record { typing = refl; name = refl; meaning = λ rows is numbers within. refl }; relates = refl }
 
 pub returns-clause-cast : goal.returns-clause-cast
 returns-clause-cast c = sums_alike
@@ -29,7 +29,7 @@ no_column e = cc
 
 pub returns-clause-one_column_alone : goal.returns-clause-one_column_alone
 returns-clause-one_column_alone c = λ congruent.
-    no_column (congruent (CastOp int32 NonStrict) (more a no_more) (more a no_more) (record { same = record { typing = refl; name = refl; meaning = λ rows is. refl }; relates = refl }, tt))
+    no_column (congruent (CastOp int32 NonStrict) (more a no_more) (more a no_more) (record { same = record { typing = refl; name = refl; meaning = λ rows is numbers within. refl }; relates = refl }, tt))
 
 pub returns-clause-settled_nodes : goal.returns-clause-settled_nodes
 returns-clause-settled_nodes c = settled_steady [] two_columns
