@@ -6,7 +6,8 @@ ghost use Rattle.plan_arena.specs.Items.{HoldsExpression};
 use crate::coercions::{Scope, added, coerce_root};
 use crate::expressions::boxed;
 use crate::fixtures::{NO_MEMORY, assert_number, column};
-use own_rule::plain_ands::PlainAndRule;
+use own_rule::op_change_rule::OpChangeRule;
+use own_rule::plain_ands::PlainAnds;
 use own_rule::relax::relax_casts;
 use plan_arena::aexpr::AExpr;
 use plan_arena::arena::{Arena, Node};
@@ -139,7 +140,7 @@ fn each_logical_and_of_truths_is_made_plain(rt: HostRuntime) {
         let root = added(&rt, expr, &mut arena);
         coerce_root(
             &rt,
-            &PlainAndRule,
+            &OpChangeRule(PlainAnds),
             root,
             &mut arena,
             &scope,

@@ -1,5 +1,4 @@
 mod AndLemmas
+mod CastLemmas
 mod ChangedOpLemmas
-mod MeaningLemmas
-mod PlacedLemmas
 mod RelaxedLemmas

@@ -1,100 +1,48 @@
-//! A rule of one's own: strict casts to the type that their operand has are made casts that aren't strict.
-ghost use Rattle.std.specs.Prelude.{◌≡◌, [], ◌∷◌, true, false, Some, MatchOption};
+//! Strict casts to the type that their operand has are made casts that aren't strict.
+ghost use Rattle.std.specs.Prelude.{◌≡◌, [], ◌∷◌, false, MatchOption};
 ghost use Rattle.plan_types.specs.Types.{ty};
 ghost use Rattle.plan_dsl.specs.Ops.{CastOp};
 ghost use Rattle.plan_arena.specs.Items.{expression_layer};
 ghost use Rattle.plan_arena.specs.Layers.{layer, op_of};
-ghost use Rattle.plan_coerce.specs.RuleLaws.{said_steady};
-ghost use Rattle.plan_coerce.specs.Rules.{said};
-ghost use Rattle.own_rule.specs.HarmlessCasts.{HasSameRelaxed, is_needless, is_relaxed, is_strict_cast, relaxed_op, until_relaxed};
-ghost use Rattle.own_rule.specs.OpChangeLaws.{changed_congruent, changed_once, changed_transitive};
+ghost use Rattle.own_rule.specs.HarmlessCasts.{is_needless, is_strict_cast, relaxed_op};
 
+use crate::op_change::OpChange;
 use plan_arena::aexpr::AExpr;
-use plan_arena::arena::{Arena, Node};
-use plan_arena::ir::IR;
-use plan_coerce::rule::OptimizationRule;
-use plan_dsl::udfs::Udfs;
-use plan_infer::field::Context;
-use plan_infer::steps::Steps;
+use plan_arena::arena::Node;
 use plan_infer::type_table::TypeTable;
 use plan_types::dtype::{CastOptions, DataType};
 use plan_types::error::PlanError;
-use plan_types::schema::Schema;
-use std::sync::ledger::Ledger;
+use std::alloc::Global;
 
 /// A strict cast to the type that its operand has changes nothing and has no fault. It is made one that isn't strict, so
 /// that a filter with it may be split.
-///
-/// What a rule of one's own has to say, and what that is here:
-///
-/// - which nodes stay as they are (`settled`), asked of the expression that a node denotes: all but these casts;
-/// - how often a node is replaced until it stays (`measure`, and `turns` at most): once;
-/// - what else both expressions have in common, beside type, name and meaning (`related`): they are one expression if all
-///   these casts are replaced. That holds of nodes where it holds of their children, and of replacements in a row
-///   (`congruent`, `transitive`);
-/// - that a node which stays does so where its inputs are put in place by related ones (`steady`). This rule goes by what a
-///   node does and by the names and typings of its inputs alone (`said`), so it has that for free (`said_steady`);
-/// - which nodes of plans stay (`settled_plan`): all.
-///
-/// What is to be proved is then the contract of the two methods: a node for which they answer none is settled, and an item
-/// that they answer is a replacement (`PlacedLemmas`), above all one of the same type, name and meaning (`MeaningLemmas`).
 #[derive(Clone, Copy, Drop)]
-pub struct HarmlessCastRule;
+pub struct HarmlessCasts;
 
-impl OptimizationRule for HarmlessCastRule {
-    ghost settled = { λ rule registry schema. said (is_relaxed registry schema) registry schema };
+impl OpChange for HarmlessCasts {
+    ghost finds = { λ casts. is_needless };
 
-    ghost measure = { λ rule registry schema. said (until_relaxed registry schema) registry schema };
+    ghost change = { λ casts. relaxed_op };
 
-    ghost turns = { λ rule. Some 1 };
-
-    ghost related = { λ rule. HasSameRelaxed };
-
-    ghost forgets = { λ rule items table node. ⊥ };
-
-    ghost replaces_plans = { λ rule. false };
-
-    ghost settled_plan = { λ rule registry schema kind. true };
-
-    ghost congruent = { λ rule. changed_congruent relaxed_op };
-
-    ghost transitive = { λ rule. changed_transitive relaxed_op };
-
-    ghost steady = { λ rule registry schema. said_steady (is_relaxed registry schema) (HasSameRelaxed registry schema) registry schema };
-
-    ghost bounded = { λ rule. changed_once is_needless };
-
-    fn optimize_plan<M: Ledger>(
-        &self,
-        _expr_arena: &Arena<AExpr>,
-        _lp_arena: &Arena<IR>,
-        _node: Node,
-        _udfs: &Udfs,
-        _types: &mut TypeTable,
-        _typings: &mut Steps<M>,
-    ) -> Result<Option<IR>, PlanError> {
-        Ok(None)
+    fn concerns(&self, item: &AExpr) -> bool {
+        strict_cast(item).is_some()
     }
 
-    fn optimize_expr<M: Ledger>(
+    fn in_place_of(
         &self,
-        expr_arena: &mut Arena<AExpr>,
-        node: Node,
-        schema: &Schema,
-        udfs: &Udfs,
-        types: &mut TypeTable,
-        typings: &mut Steps<M>,
+        item: &AExpr,
+        types: &TypeTable,
+        alloc: Global,
     ) -> Result<Option<AExpr>, PlanError> {
-        let Some((input, dtype)) = strict_cast(expr_arena.get(node)) else {
+        let Some((input, dtype)) = strict_cast(item) else {
             return Ok(None);
         };
-        types.field_of(node, schema, Context::Default, expr_arena, udfs, typings)?;
         if types.get(input).dtype != *dtype {
             return Ok(None);
         }
         Ok(Some(AExpr::Cast {
             expr: input,
-            dtype: dtype.try_clone(expr_arena.allocator())?,
+            dtype: dtype.try_clone(alloc)?,
             options: CastOptions::NonStrict,
         }))
     }

@@ -3,5 +3,7 @@
 
 mod examples;
 pub mod harmless_casts;
+pub mod op_change;
+pub mod op_change_rule;
 pub mod plain_ands;
 pub mod relax;

@@ -11,17 +11,16 @@ ghost use Rattle.plan_infer.specs.KeptTypes.{IsKept, IsRight};
 ghost use Rattle.plan_coerce.specs.Optimizer.{StaysLike, roots_of};
 ghost use Rattle.own_rule.specs.HarmlessCasts.{HasSameRelaxed, relaxed};
 
-use crate::harmless_casts::HarmlessCastRule;
+use crate::harmless_casts::HarmlessCasts;
+use crate::op_change_rule::OpChangeRule;
 use plan_arena::aexpr::AExpr;
 use plan_arena::arena::{Arena, Node};
 use plan_coerce::stack_opt::ConversionOptimizer;
+use plan_coerce::uncounted::coerce_uncounted;
 use plan_dsl::udfs::Udfs;
-use plan_infer::steps::Steps;
 use plan_infer::type_table::TypeTable;
 use plan_types::error::PlanError;
 use plan_types::schema::Schema;
-use std::marker::Brand;
-use std::sync::ledger::{Blank, Ledger};
 
 /// Makes strict casts to the type that their operand has, from a node on, casts that aren't strict. Each node of the arena
 /// keeps type, name and meaning of what it denotes, also after a refusal.
@@ -40,33 +39,17 @@ pub fn relax_casts(
 {
     let mut types = TypeTable::new(arena.allocator());
     types.infer(node, schema, arena, udfs)?;
-    relax_by::<Brand, Brand>(
-        node,
-        arena,
-        schema,
-        udfs,
-        &mut types,
-        Blank::new(1),
-        Blank::new(1),
-    )
+    relax_typed(node, arena, schema, udfs, &mut types)
 }
 
-// Makes strict casts from a typed node on casts that aren't strict, with ledgers of its own.
-fn relax_by<M: Ledger, L: Ledger>(
+// Makes strict casts from a typed node on casts that aren't strict.
+fn relax_typed(
     node: Node,
     arena: &mut Arena<AExpr>,
     schema: &Schema,
     udfs: &Udfs,
     types: &mut TypeTable,
-    typings: Blank,
-    steps: Blank,
 ) -> Result<(), PlanError>
-    requires typings_name { typings.name ≡ M.name }
-    requires typings_parts { typings.parts ≡ M.parts }
-    requires typings_some { 0 < typings.parts }
-    requires steps_name { steps.name ≡ L.name }
-    requires steps_parts { steps.parts ≡ L.parts }
-    requires steps_some { 0 < steps.parts }
     requires kept { IsKept types.old node.0 }
     requires right { IsRight (registry udfs.now) (columns schema.now) arena.old types.old }
     ensures relaxed { OnOk result ((t : Expression) → Denotes (HoldsExpression arena.old) node.0 t →
@@ -75,10 +58,8 @@ fn relax_by<M: Ledger, L: Ledger>(
     ensures err { IfErr result (λ error. error ≡ no_memory) }
 {
     let mut optimizer = from_root(node, arena)?;
-    let mut typings = Steps::<M>::new(typings);
-    let mut steps = Steps::<L>::new(steps);
-    let rule = HarmlessCastRule;
-    optimizer.coerce_expressions(&rule, arena, schema, udfs, types, &mut typings, &mut steps)
+    let rule = OpChangeRule(HarmlessCasts);
+    coerce_uncounted(&mut optimizer, &rule, arena, schema, udfs, types)
 }
 
 // The loop, with that root stacked alone.

@@ -143,7 +143,7 @@ sum_coerced : IsCoercion [] two_columns sum strict_sum
 sum_coerced = record { same = refl; becomes = record { count = 1; steps = (strict_sum, inr (more wide (more b no_more), refl, inl (inl (cast_put (of_type int8) int32 refl refl refl), refl)), refl) } }
 
 pub sums_alike : IsLike (IsCoercion [] two_columns) [] two_columns sum strict_sum
-sums_alike = record { same = record { typing = refl; name = refl; meaning = λ rows is. refl }; relates = sum_coerced }
+sums_alike = record { same = record { typing = refl; name = refl; meaning = λ rows is numbers within. refl }; relates = sum_coerced }
 
 pub sum_replaced : IsReplacement (IsCoercion [] two_columns) (until_settled [] two_columns) [] two_columns sum_items strict_items 2 sum
 sum_replaced = record {

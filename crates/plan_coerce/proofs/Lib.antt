@@ -1,3 +1,4 @@
+pub mod AgreeLemmas
 pub mod AnyRootLemmas
 pub mod BesideLemmas
 pub mod CoercedLemmas

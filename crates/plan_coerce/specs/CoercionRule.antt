@@ -33,7 +33,7 @@ pub record ForgetsAt (items : List AExpr) (table : TypeTable) (at : ℕ) : Type 
   pub keeps : KeepsEntry table node own
   pub listed : own.operands ≢ []
 
--- the same, once the node is typed
+-- where it is, once the node is typed
 pub record ForgetsOnceTyped (items : List AExpr) (table : TypeTable) (at : ℕ) : Type 0 where
   pub typed : TypeTable
   pub extends : Extends table typed

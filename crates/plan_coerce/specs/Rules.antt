@@ -46,11 +46,12 @@ seen registry schema children = record { labels = fold_all op_label children; ty
 abbrev pub said : {A : Type 0} → (Op → Inputs → A) → Registry → Columns → Expression → A
 said says registry schema (node op children) = says op (seen registry schema children)
 
--- the one expression has the type and name of the other, and its meaning on each frame of the schema
+-- the one expression has the type and name of the other, and on each frame of the schema gives the same of any list of its
+-- rows
 pub record IsSameOnFrames (registry : Registry) (schema : Columns) (before after : Expression) : Type 0 where
   pub typing : typing registry schema after ≡ typing registry schema before
   pub name : label_of after ≡ label_of before
-  pub meaning : (rows : List Row) → IsFrame (record { schema = schema; rows = rows }) → meaning registry (record { schema = schema; rows = rows }) after ≡ meaning registry (record { schema = schema; rows = rows }) before
+  pub meaning : (rows : List Row) → IsFrame (record { schema = schema; rows = rows }) → (numbers : List ℕ) → AllByRecursion (λ n. n < length rows) numbers → meaning registry (record { schema = schema; rows = rows }) after numbers ≡ meaning registry (record { schema = schema; rows = rows }) before numbers
 
 -- the one expression says so the same as the other, and is related to it
 pub record IsLike (related : Expression → Expression → Type 0) (registry : Registry) (schema : Columns) (before after : Expression) : Type 0 where

@@ -9,3 +9,4 @@ pub mod rule;
 pub mod stack_opt;
 pub mod type_check;
 mod type_coercion;
+pub mod uncounted;

@@ -4,8 +4,8 @@ use Rattle.std.specs.List.{Contains}
 use Rattle.plan_types.specs.Errors.{IsRefusal, no_memory, no_room, broken}
 use Rattle.plan_types.specs.Types.{Truth, same_type}
 use Rattle.plan_types.specs.TypeLaws.{same_type_exact}
-use Rattle.plan_types.specs.Outcomes.{Outcome, Done, Fault, Stuck, Meets}
-use Rattle.plan_types.specs.Frames.{Frame, Row, IsFrame, IsFrameOf}
+use Rattle.plan_types.specs.Outcomes.{Outcome, Done, Fault, Stuck, Meets, then_do}
+use Rattle.plan_types.specs.Frames.{Frame, Row, IsFrame, IsFrameOf, row_numbers}
 use Rattle.plan_types.specs.Schemas.{Columns, columns}
 use Rattle.plan_types.specs.declared.schema.Schema.{Schema}
 use Rattle.plan_types.specs.declared.error.ErrorKind.{ErrorKind}
@@ -13,7 +13,7 @@ use Rattle.plan_types.specs.declared.error.ErrorKind.TheVariants.{InvalidOperati
 use Rattle.plan_types.specs.declared.error.PlanError.{PlanError}
 use Rattle.plan_dsl.specs.Aliases.{IsCore}
 use Rattle.plan_dsl.specs.Ops.{Expression}
-use Rattle.plan_dsl.specs.PlanKernels.{Evaluation, filtered, filtered_on, scanned, table_frame}
+use Rattle.plan_dsl.specs.PlanKernels.{Evaluation, filtered, kept_rows, scanned, table_frame}
 use Rattle.plan_dsl.specs.PlanMeaning.{FitsPlan, HasTable}
 use Rattle.plan_dsl.specs.PlanRules.{broken_kinds, plan_rule, schema_by, schema_of}
 use Rattle.plan_dsl.specs.Plans.{FilterKind, Named, Plan, filter_op}
@@ -37,6 +37,7 @@ use Rattle.plan_arena.proofs.ItemLemmas.{expression_laws}
 use Rattle.plan_arena.proofs.RunLemmas.{accepted_schema, runs_soundly}
 use Rattle.plan_coerce.specs.Optimizer.{DenotesLike, StaysLike}
 use Rattle.plan_coerce.specs.Rules.{IsSameOnFrames}
+use Rattle.plan_coerce.proofs.FrameLemmas.{rows_within}
 use Rattle.plan_lower.proofs.ExamplePlanLemmas.{one_plan}
 use Rattle.plan_properties.specs.Splitting.{IsCondition, split_predicate}
 use Rattle.plan_properties.proofs.FilterLemmas.{IsStacked, split_predicates, splitting_keeps_plans, stacked}
@@ -44,7 +45,7 @@ use Rattle.own_rule.specs.HarmlessCasts.{HasSameRelaxed, relaxed}
 use Rattle.planner.specs.Planning.{StandsFor, filtered_scan, scan, split_scan, with_relaxed}
 use Rattle.planner.proofs.ArenaLemmas.{filtered_is}
 use Rattle.planner.proofs.SplitLemmas.{IsSplit, split_denoted}
-use Rattle.planner.proofs.PredicateLemmas.{names_relaxed, relaxed_condition, relaxed_core, typing_relaxed}
+use Rattle.planner.proofs.PredicateLemmas.{names_relaxed, relaxed_condition, relaxed_core}
 
 not_contained : (kinds : List ErrorKind) (kind : ErrorKind) → kinds ≡ [] → Contains kinds kind → ⊥
 not_contained [] kind e h = omega (arith, h.1)
@@ -56,9 +57,9 @@ scan_fits tables None schema meets = tt
 scan_fits tables (Some n) schema meets =
     (elim (slice_get tables n) as (λ o. Meets (IsFrameOf schema) (table_frame o) → HasTable schema o) [ None ↦ λ h. absurd h | Some frame ↦ λ h. h ] meets, tt)
 
--- a filter by a predicate that gives the same on frames of the schema
-filtered_same : (e : Evaluation) (x y : Named Expression) (schema : Columns) (input : Outcome Frame) → ((frame : Frame) → IsFrameOf schema frame → e frame x ≡ e frame y) → Meets (IsFrameOf schema) input → filtered e x input ≡ filtered e y input
-filtered_same e x y schema (Done frame) same is = ap (λ v. filtered_on v frame) (same frame is)
+-- a filter by a predicate that gives the same on the rows of frames of the schema
+filtered_same : (e : Evaluation) (x y : Named Expression) (schema : Columns) (input : Outcome Frame) → ((frame : Frame) → IsFrameOf schema frame → (e frame x).gives (row_numbers frame) ≡ (e frame y).gives (row_numbers frame)) → Meets (IsFrameOf schema) input → filtered e x input ≡ filtered e y input
+filtered_same e x y schema (Done frame) same is = ap (λ o. then_do o (kept_rows frame)) (same frame is)
 filtered_same e x y schema Fault same is = refl
 filtered_same e x y schema Stuck same is = refl
 
@@ -127,16 +128,22 @@ module _ (registry : Registry) (schema : Columns) where
         filters : IsStacked registry schema (split_predicate predicate) (scan table schema)
         filters = stacked registry schema (split_predicate predicate) (scan table schema) (split_predicates registry schema predicate relaxed_is core_is name_is) there (there, tt) (tt, tt) (tt, tt) (tt, tt)
 
-        agree : (rows : List Row) → IsFrame (record { schema = schema; rows = rows }) → by_running registry (record { schema = schema; rows = rows }) predicate ≡ by_running registry (record { schema = schema; rows = rows }) p
+        -- on all rows of a frame of a schema both give the same
+        abbrev GiveTheSame : Columns → List Row → Type 0
+        GiveTheSame columns rows =
+            let frame : Frame = record { schema = columns; rows = rows } in
+            (by_running registry frame predicate).gives (row_numbers frame) ≡ (by_running registry frame p).gives (row_numbers frame)
+
+        agree : (rows : List Row) → IsFrame (record { schema = schema; rows = rows }) → GiveTheSame schema rows
         agree rows is =
             let frame : Frame = record { schema = schema; rows = rows } in
-            let typed = typing_relaxed registry schema p.expression in
-            let gives = strict_is_meaning registry frame predicate.expression core_is relaxed_is.strict ∙ same.meaning rows is ∙ sym (strict_is_meaning registry frame p.expression strict_core.0 strict_core.1) in
-            λ i. record { name = p.label.name; typing = typed i; gives = gives i }
+            ap (λ m. m (row_numbers frame)) (strict_is_meaning registry frame predicate.expression core_is relaxed_is.strict)
+            ∙ same.meaning rows is (row_numbers frame) (rows_within frame)
+            ∙ sym (ap (λ m. m (row_numbers frame)) (strict_is_meaning registry frame p.expression strict_core.0 strict_core.1))
 
-        agree_on : (frame : Frame) → IsFrameOf schema frame → by_running registry frame predicate ≡ by_running registry frame p
+        agree_on : (frame : Frame) → IsFrameOf schema frame → GiveTheSame frame.schema frame.rows
         agree_on frame is =
-            subst (λ s. IsFrame (record { schema = s; rows = frame.rows }) → by_running registry (record { schema = s; rows = frame.rows }) predicate ≡ by_running registry (record { schema = s; rows = frame.rows }) p) (sym is.schema_is) (agree frame.rows) is.frame_is
+            subst (λ s. IsFrame (record { schema = s; rows = frame.rows }) → GiveTheSame s frame.rows) (sym is.schema_is) (agree frame.rows) is.frame_is
 
         runs : (tables : List Frame) → Meets (IsFrameOf schema) (plan_run registry tables (scan table schema)) → plan_run registry tables after ≡ plan_run registry tables before
         runs tables meets =

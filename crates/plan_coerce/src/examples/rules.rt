@@ -5,13 +5,15 @@ ghost use Rattle.plan_types.specs.Types.{Truth, Untyped};
 ghost use Rattle.plan_types.specs.declared.error.ErrorKind.TheVariants.{ColumnNotFound, InvalidOperation};
 ghost use Rattle.plan_dsl.specs.Ops.{AliasOp};
 ghost use Rattle.plan_dsl.specs.Plans.{named, FilterKind, SelectKind, ScanKind};
+ghost use Rattle.plan_dsl.specs.Samples.{count};
+ghost use Rattle.plan_dsl.specs.Strictness.{IsSame};
 ghost use Rattle.plan_dsl.specs.Trees.{node, no_more, more};
 ghost use Rattle.plan_dsl.specs.Names.{column_label, literal_label};
 ghost use Rattle.plan_dsl.specs.declared.operator.Operator.TheVariants.{Eq, LogicalAnd, LogicalOr, Plus};
-ghost use Rattle.plan_infer.specs.Samples.{int8, int16, int32, two_columns, a, b, c, five, literal, binary, cast_to, sum, pair, columns_and, sum_items, strictly_cast_to};
+ghost use Rattle.plan_infer.specs.Samples.{int8, int16, int32, one_column, two_columns, a, b, c, five, literal, binary, cast_to, sum, pair, columns_and, sum_items, strictly_cast_to};
 ghost use Rattle.plan_coerce.specs.CoercionRule.{IsCoercion};
 ghost use Rattle.plan_coerce.specs.Reaching.{AreOnce, HasNodes};
-ghost use Rattle.plan_coerce.specs.Rules.{AllKnown, HasSameWritten, IsReplacement, IsTransitive, SettlesNoNumber, has_truth, is_settled, is_strict_node, said, seen, truth_of, until_settled};
+ghost use Rattle.plan_coerce.specs.Rules.{AllKnown, HasSameWritten, IsReplacement, IsSameOnFrames, IsTransitive, SettlesNoNumber, has_truth, is_settled, is_strict_node, said, seen, truth_of, until_settled};
 ghost use Rattle.plan_coerce.specs.Samples.{no_truth, strict_sum, truth};
 
 /// A node is strict where its operands have the types to which it takes them. A number without a type is not, nor what
@@ -55,6 +57,14 @@ pub fn predicates_that_are_checked()
     ensures kept { truth_of (Ok (record { type = Truth; many = false })) ≡ Ok (record { type = Truth; many = false }) }
     ensures other_type { truth_of (Ok (record { type = int8; many = true })) ≡ Err InvalidOperation }
     ensures same_kind { truth_of (Err ColumnNotFound) ≡ Err ColumnNotFound }
+{}
+
+/// Meanings are compared on rows that a frame has. One without columns has no rows, so there a count of rows is the same
+/// twice over: of a row that isn't there it is not, and neither is it over a column.
+pub fn rows_that_are_compared()
+    ensures no_rows { IsSameOnFrames [] [] count (binary Plus count count) }
+    ensures other_rows { ¬ (IsSame [] [] count (binary Plus count count)) }
+    ensures rows { ¬ (IsSameOnFrames [] (one_column int8) count (binary Plus count count)) }
 {}
 
 /// A node that stays as it is is put in place of none, and neither is one that says another thing. A rule that calls every

@@ -95,7 +95,7 @@ returns-clause-item_below c = λ coerced.
     other_name (column_name (codes "b") (codes "a") (coerced.below 0 (ColumnOp (codes "a")) [] (λ le. omega (arith, le)) refl))
 
 pub returns-clause-nothing_done : goal.returns-clause-nothing_done
-returns-clause-nothing_done c = λ n t d. record { tree = t; denotes = d; like = record { same = record { typing = refl; name = refl; meaning = λ rows is. refl }; relates = refl } }
+returns-clause-nothing_done c = λ n t d. record { tree = t; denotes = d; like = record { same = record { typing = refl; name = refl; meaning = λ rows is numbers within. refl }; relates = refl } }
 
 pub returns-clause-other_tree : goal.returns-clause-other_tree
 returns-clause-other_tree c = λ stays.
@@ -109,7 +109,7 @@ pub returns-clause-items_below : goal.returns-clause-items_below
 returns-clause-items_below c = kept_first
 
 pub returns-clause-same : goal.returns-clause-same
-returns-clause-same c = record { tree = a; denotes = ([], refl, tt); like = record { same = record { typing = refl; name = refl; meaning = λ rows is. refl }; relates = refl } }
+returns-clause-same c = record { tree = a; denotes = ([], refl, tt); like = record { same = record { typing = refl; name = refl; meaning = λ rows is numbers within. refl }; relates = refl } }
 
 pub returns-clause-not_same : goal.returns-clause-not_same
 returns-clause-not_same c = λ found.

@@ -29,7 +29,7 @@ no_column e = cc
 
 pub returns-clause-one_column_alone : goal.returns-clause-one_column_alone
 returns-clause-one_column_alone c = λ congruent.
-    no_column (congruent (CastOp int32 NonStrict) (more a no_more) (more a no_more) (record { same = record { typing = refl; name = refl; meaning = λ rows is. refl }; relates = refl }, tt))
+    no_column (congruent (CastOp int32 NonStrict) (more a no_more) (more a no_more) (record { same = record { typing = refl; name = refl; meaning = λ rows is numbers within. refl }; relates = refl }, tt))
 
 pub returns-clause-settled_nodes : goal.returns-clause-settled_nodes
 returns-clause-settled_nodes c = settled_steady (HasSameWritten [] two_columns) [] two_columns (λ t u same. same)

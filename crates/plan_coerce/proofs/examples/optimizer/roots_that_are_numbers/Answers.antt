@@ -46,7 +46,7 @@ abbrev typed_items : List AExpr
 typed_items = Literal (Int32 (pos 5)) ∷ []
 
 ends : EndsTyped (is_settled [] []) (HasSameWritten [] []) [] [] typed_items 0 five
-ends = record { tree = literal int32 (pos 5); denotes = ([], refl, tt); each = (refl, tt); like = inl (record { same = record { typing = refl; name = refl; meaning = λ rows is. refl }; relates = refl }) }
+ends = record { tree = literal int32 (pos 5); denotes = ([], refl, tt); each = (refl, tt); like = inl (record { same = record { typing = refl; name = refl; meaning = λ rows is numbers within. refl }; relates = refl }) }
 
 pub returns-clause-ends_typed : goal.returns-clause-ends_typed
 returns-clause-ends_typed c = ends
