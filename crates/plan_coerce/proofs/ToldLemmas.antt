@@ -546,6 +546,11 @@ module _ (registry : Registry) (schema : Columns) (items : List AExpr) (n : ℕ)
 pub untold_stays : (registry : Registry) (schema : Columns) (op : Op) (ts : Trees Op) → is_cast_op op ≡ true → is_told (written_out registry schema (node op ts)) ≡ false → stays (coerced registry schema (node op ts)) ≡ true
 untold_stays registry schema op ts cast none = ap not (sym (goes_where_told op (fitted registry schema op (typing_all registry schema ts) (coerced_all registry schema ts)) cast) ∙ none)
 
+-- an item that is no cast
+pub no_cast_item : (item : AExpr) → ((expr dtype options : _) → item ≢ Cast expr dtype options) → is_cast_op (op_of (expression_layer item)) ≡ false
+no_cast_item (Cast expr dtype options) cast = absurd (cast expr dtype options refl)
+no_cast_item item cast = refl
+
 -- an item that is no literal, no operator and no cast
 pub other_item : (item : AExpr) → ((value : _) → item ≢ LiteralItem value) → ((left operator right : _) → item ≢ BinaryExpr left operator right) → ((expr dtype options : _) → item ≢ Cast expr dtype options) → (is_cast_op (op_of (expression_layer item)) ≡ false) × (is_told_top (op_of (expression_layer item)) ≡ false)
 other_item (LiteralItem value) literal operator cast = absurd (literal value refl)

@@ -17,7 +17,7 @@ ghost use Rattle.plan_arena.specs.Layers.{op_of};
 ghost use Rattle.plan_infer.specs.KeptTypes.{HasRightTypes, IsKept, IsRight};
 ghost use Rattle.plan_coerce.specs.Coercion.{coerced};
 ghost use Rattle.plan_coerce.specs.CoercionRule.{CanReplace, StaysSettled};
-ghost use Rattle.plan_coerce.specs.InlinedCasts.{is_cast_op, is_logical, literal_cast, literal_with, stays};
+ghost use Rattle.plan_coerce.specs.InlinedCasts.{is_cast_op, is_logical, is_told_top, literal_cast, literal_with, stays};
 ghost use Rattle.plan_coerce.specs.Rules.{KeepsAsTheyAre, KeepsNone, is_strict_node, said};
 ghost use Rattle.plan_coerce.specs.ToldCasts.{IsToldBy};
 
@@ -106,10 +106,33 @@ fn clear_unless(stays: bool, types: &mut TypeTable)
     }
 }
 
-pub(crate) fn is_cast(item: &AExpr) -> bool
+fn is_cast(item: &AExpr) -> bool
     ensures { result ≡ is_cast_op (op_of (expression_layer item.now)) }
 {
     matches!(item, AExpr::Cast { .. })
+}
+
+/// Whether a typed node may be a cast that goes, by what stands right under it.
+pub(crate) fn may_go(node: Node, arena: &Arena<AExpr>) -> bool
+    requires { DenotesTree (HoldsExpression arena.now) node.0 }
+    ensures { result ≡ false → (registry : Registry) (schema : Columns) (t : Expression) (typed : Typed) → Denotes (HoldsExpression arena.now) node.0 t → typing registry schema t ≡ Ok typed →
+        stays (coerced registry schema t) ≡ true }
+{
+    match arena.get(node) {
+        AExpr::Cast { expr, .. } => may_be_told(arena.get(*expr)),
+        _ => false,
+    }
+}
+
+// Whether it may be that a cast of the item's node can be told.
+fn may_be_told(item: &AExpr) -> bool
+    ensures { result ≡ false → (is_cast_op (op_of (expression_layer item.now)) ≡ false) × (is_told_top (op_of (expression_layer item.now)) ≡ false) }
+{
+    match item {
+        AExpr::Literal(_) | AExpr::Cast { .. } => true,
+        AExpr::BinaryExpr { op, .. } => is_logical(*op),
+        _ => false,
+    }
 }
 
 // What stands at a node, without casts that go.

@@ -23,7 +23,7 @@ ghost use Rattle.plan_coerce.specs.CoercionRule.{CanReplace, ForgetsOnceTyped, I
 ghost use Rattle.plan_coerce.specs.Reaching.{IsClosed, StaysOnce};
 ghost use Rattle.plan_coerce.specs.Rules.{is_settled, is_strict_node, said, until_settled};
 
-use crate::cast_inlining::{in_place_of, is_cast};
+use crate::cast_inlining::{in_place_of, may_go};
 use crate::rule::OptimizationRule;
 use crate::type_coercion::{number_under, operands_to};
 use plan_arena::aexpr::AExpr;
@@ -89,7 +89,7 @@ impl OptimizationRule for TypeCoercionRule {
         types: &mut TypeTable,
         typings: &mut Steps<M>,
     ) -> Result<Option<AExpr>, PlanError> {
-        if is_settled(node, types) && !is_cast(expr_arena.get(node)) {
+        if is_settled(node, types) && !may_go(node, expr_arena) {
             return Ok(None);
         }
         infer_once(node, schema, expr_arena, udfs, types, typings)?;

@@ -1,15 +1,15 @@
-use Rattle.std.proofs.Common.{inl, sym, ◌∙◌}
+use Rattle.std.proofs.Common.{inl}
 use Rattle.std.proofs.lemmas.Bool.{and_from}
 use Rattle.plan_types.specs.Schemas.{columns}
 use Rattle.plan_dsl.specs.Registry.{registry}
-use Rattle.plan_arena.proofs.ItemLemmas.{tree_within}
-use Rattle.plan_infer.proofs.TableLemmas.{extends_itself, right_start}
+use Rattle.plan_infer.specs.KeptTypes.{typed_of}
+use Rattle.plan_infer.proofs.TableLemmas.{extends_itself, kept_typing, right_start}
 use Rattle.plan_coerce.specs.Coercion.{coerced}
 use Rattle.plan_coerce.specs.InlinedCasts.{stays}
 use Rattle.plan_coerce.specs.Rules.{is_settled, is_strict_node, said}
-use Rattle.plan_coerce.proofs.CoercionRuleLemmas.{answer_keeps, answer_right, answer_with, known_not_number, kept_strict}
+use Rattle.plan_coerce.proofs.CoercionRuleLemmas.{answer_keeps, answer_right, answer_with, item_there, kept_strict, known_not_number}
 use Rattle.plan_coerce.proofs.SettledLemmas.{settled_no_number}
-use Rattle.plan_coerce.proofs.ToldLemmas.{none_said, not_cast_stays}
+use Rattle.plan_coerce.proofs.ToldLemmas.{none_said}
 use Rattle.plan_coerce.proofs.coercion_rule.TypeCoercionRuleOptimizationRule.optimize_expr.Goals as goal
 
 pub returns-in-Ok-clause-numbers : goal.returns-in-Ok-clause-numbers
@@ -19,11 +19,8 @@ pub returns-in-Err-clause-right : goal.returns-in-Err-clause-right
 returns-in-Err-clause-right g c =
     right_start (registry c.args.udfs.now) (columns c.args.schema.now) c.replacement.new.arena c.clear.new.self c.clear.ensures
 
-pub get-requires : goal.get-requires
-get-requires g c = tree_within c.args.expr_arena.now c.args.node.0 c.requires.tree
-
-pub returns-then-not-is_cast-clause-answer : goal.returns-then-not-is_cast-clause-answer
-returns-then-not-is_cast-clause-answer g c = λ t d.
+pub returns-then-not-may_go-clause-answer : goal.returns-then-not-may_go-clause-answer
+returns-then-not-may_go-clause-answer g c = λ t d.
     let registry = registry c.args.udfs.now in
     let schema = columns c.args.schema.now in
     let items = c.args.expr_arena.now in
@@ -31,11 +28,13 @@ returns-then-not-is_cast-clause-answer g c = λ t d.
     let n = c.args.node.0 in
     let kept = c.is_settled.ensures.kept c.if-is_settled.true in
     let known = known_not_number registry schema items types c.requires.right n kept.0 kept.1 kept.3 in
-    let strict = kept_strict registry schema items types c.requires.right n kept.0 kept.1 c.get.result.now c.get.ensures kept.2 known t d in
-    and_from (said (is_strict_node registry schema) registry schema t) (stays (coerced registry schema t)) strict (not_cast_stays registry schema items n c.get.result.now c.get.ensures (sym c.is_cast.ensures ∙ c.if-not-is_cast.true) t d)
+    let item = item_there items n t d in
+    let strict = kept_strict registry schema items types c.requires.right n kept.0 kept.1 item.0 item.1 kept.2 known t d in
+    let typed = kept_typing registry schema items types c.requires.right n kept.0 kept.1 t d in
+    and_from (said (is_strict_node registry schema) registry schema t) (stays (coerced registry schema t)) strict (c.may_go.ensures c.if-not-may_go.true registry schema t (typed_of kept.0) d typed)
 
-pub returns-then-not-is_cast-clause-kept : goal.returns-then-not-is_cast-clause-kept
-returns-then-not-is_cast-clause-kept g c = inl (extends_itself c.args.types.now)
+pub returns-then-not-may_go-clause-kept : goal.returns-then-not-may_go-clause-kept
+returns-then-not-may_go-clause-kept g c = inl (extends_itself c.args.types.now)
 
 pub returns-in-Ok-clause-answer : goal.returns-in-Ok-clause-answer
 returns-in-Ok-clause-answer g c = λ t d.
