@@ -146,7 +146,7 @@ module _ (expressions : List AExpr) (plans : List IR) (n : ℕ) (item : IR) (got
     -- the lines of a filter, whose child has its schema
     pub filter_lines : (predicate : Named ℕ) (m : ℕ) → plan_layer item ≡ layer (filter_op predicate) (m ∷ []) → (lined text deeper : List ℕ) → lined ≡ before ++ line_text path (node_name item) cols → deeper ≡ path ++ 0 ∷ [] → ((u : Plan) → Denotes (HoldsPlan expressions plans) m u → IsAccepted registry u → schema_of registry u ≡ Some cols → text ≡ lined ++ plan_lines registry deeper u) → (t : Plan) → Denotes (HoldsPlan expressions plans) n t → IsAccepted registry t → schema_of registry t ≡ Some cols → text ≡ before ++ plan_lines registry path t
     filter_lines predicate m is lined text deeper line step below t d accepted schema =
-        let child = filter_item expressions plans item predicate m is registry t (item_denotes expressions plans n item got t d) accepted in
+        let child = filter_item registry expressions plans item predicate m is t (item_denotes expressions plans n item got t d) accepted in
         let laws = plan_laws expressions plans in
         one_lines (filter_op predicate) m is lined text deeper line step t d (λ u e only. let same = denotes_one _ (HoldsPlan expressions plans) laws m u child.0 e child.1 in below u e (child_accepted t u accepted only) (ap (schema_of registry) same ∙ sym child.3 ∙ schema)) schema
 
