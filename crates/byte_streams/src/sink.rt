@@ -4,8 +4,9 @@ ghost use Rattle.std.specs.Prelude.{◌≡◌, ◌⊎◌, ◌↔◌, ℕ, ◌+�
 ghost use Rattle.std.specs.declared.option.Option.{Option};
 ghost use Rattle.std.specs.Io.{WritesAtMost};
 ghost use Rattle.std.specs.Io.KnownBytes.{WriteAppends};
-ghost use Rattle.byte_streams.specs.Streams.{AdapterState, GrowingSinkState, HasCause, IsFull, PlainSinkState, SinkState, TakesSome, one_more, plain_faults};
+ghost use Rattle.byte_streams.specs.Streams.{GrowingSinkState, HasCause, IsFull, PlainSinkState, SinkState, TakesSome, one_more, plain_faults};
 
+use crate::adapter::Adapter;
 use crate::faults::{Failed, FaultPlan, counted};
 use std::alloc::{AllocError, Global};
 use std::io;
@@ -327,36 +328,10 @@ fn taken(answer: io::Result<usize>, asked: usize) -> Result<usize, Failed>
 
 /// Any writer as a sink. A write that takes nothing of a piece with bytes is a failure, and so is an
 /// interrupted one. It flushes nothing: the runtime's standard output has no buffer.
-#[derive(Drop)]
-pub struct WriteAdapter<W: Write> {
-    inner: W,
-    faults: u64,
-}
-
-impl<W: Write> Model for WriteAdapter<W> {
-    ghost Value = { AdapterState W };
-
-    ghost view = { λ s. record { inner = s.inner; faults = s.faults } };
-}
-
-impl<W: Write> WriteAdapter<W> {
-    pub fn new(inner: W) -> Self
-        ensures inner { result.inner ≡ inner }
-        ensures fresh { result.faults ≡ 0 }
-    {
-        WriteAdapter { inner, faults: 0 }
-    }
-
-    /// How many writes failed.
-    pub fn faults(&self) -> u64
-        ensures { result ≡ self.now.faults }
-    {
-        self.faults
-    }
-}
+pub type WriteAdapter<W> = Adapter<W>;
 
 // It tells what the writer tells: standard output tells nothing.
-impl<W: Write> Sink for WriteAdapter<W> {
+impl<W: Write> Sink for Adapter<W> {
     ghost written = { λ s. W.contents s.inner };
 
     ghost faults = { λ s. s.faults };

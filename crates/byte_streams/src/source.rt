@@ -4,8 +4,9 @@ ghost use Rattle.std.specs.Prelude.{◌≡◌, ◌↔◌, ℕ, ◌<◌, ◌++◌
 ghost use Rattle.std.specs.declared.option.Option.{Option};
 ghost use Rattle.std.specs.Io.{ReadsAtMost};
 ghost use Rattle.std.specs.Io.KnownBytes.{ReadConsumes};
-ghost use Rattle.byte_streams.specs.Streams.{AdapterState, HasCause, SourceState, one_more};
+ghost use Rattle.byte_streams.specs.Streams.{HasCause, SourceState, one_more};
 
+use crate::adapter::Adapter;
 use crate::faults::{Failed, FaultPlan, counted};
 use std::io::Read;
 use std::marker::Model;
@@ -175,36 +176,10 @@ impl Source for PlainSource<'_> {
 }
 
 /// Any reader as a source. An interrupted read is a failure like any other.
-#[derive(Drop)]
-pub struct ReadAdapter<R: Read> {
-    inner: R,
-    faults: u64,
-}
-
-impl<R: Read> Model for ReadAdapter<R> {
-    ghost Value = { AdapterState R };
-
-    ghost view = { λ s. record { inner = s.inner; faults = s.faults } };
-}
-
-impl<R: Read> ReadAdapter<R> {
-    pub fn new(inner: R) -> Self
-        ensures inner { result.inner ≡ inner }
-        ensures fresh { result.faults ≡ 0 }
-    {
-        ReadAdapter { inner, faults: 0 }
-    }
-
-    /// How many reads failed.
-    pub fn faults(&self) -> u64
-        ensures { result ≡ self.now.faults }
-    {
-        self.faults
-    }
-}
+pub type ReadAdapter<R> = Adapter<R>;
 
 // It tells what the reader tells: standard input tells nothing.
-impl<R: Read> Source for ReadAdapter<R> {
+impl<R: Read> Source for Adapter<R> {
     ghost left = { λ s. R.remaining s.inner };
 
     ghost faults = { λ s. s.faults };
