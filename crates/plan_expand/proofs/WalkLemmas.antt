@@ -12,7 +12,7 @@ use Rattle.plan_types.specs.declared.text.PlSmallStr.{PlSmallStr}
 use Rattle.plan_dsl.specs.Expansion.{is_marker, markers_in, all_markers_in, first_root, root_name, root_of_node}
 use Rattle.plan_dsl.specs.Expressions.{function_source, plain_tree, tree_of}
 use Rattle.plan_dsl.specs.Functions.{is_expanded_function}
-use Rattle.plan_dsl.specs.Ops.{Op}
+use Rattle.plan_dsl.specs.Ops.{Op, LenOp}
 use Rattle.plan_dsl.specs.Sources.{Source, SourceOp, Plain, unwritten, all_unwritten}
 use Rattle.plan_dsl.specs.Trees.{Trees, node, no_more, more, children_from, fold_all, top_op, tree_depth, trees_depth}
 use Rattle.plan_dsl.specs.declared.expr.Expr.{Expr, Column}
@@ -20,7 +20,7 @@ use Rattle.plan_dsl.specs.declared.expr.Expr.TheVariants.{Exclude', Function', K
 use Rattle.plan_dsl.specs.declared.function_expr.FunctionExpr.{FunctionExpr}
 use Rattle.plan_dsl.specs.declared.function_expr.FunctionExpr.TheVariants.{FieldByIndex}
 use Rattle.plan_dsl.proofs.ExprLemmas.{IsListed, IsOfEach}
-use Rattle.plan_expand.specs.Walks.{children_of, is_of_plans, operands_in, first_of, first_marker, first_marker_of, first_root_of}
+use Rattle.plan_expand.specs.Walks.{children_of, is_of_plans, operands_in, first_of, first_marker, first_marker_of, first_root_of, plan_operands_in}
 
 -- ---- operands
 
@@ -36,6 +36,26 @@ operands_listed {tree} {op} {first} {rest} listed = sym (ap operands_in listed.i
 pub operands_of_each : {tree : Source} {op : SourceOp} {each : List Source} → IsOfEach tree op each → is_marker op ≡ false → Some each ≡ operands_in tree
 operands_of_each {tree} {op} {each} listed marks =
     sym (ap operands_in listed.is ∙ ap (λ b. cond b None (Some (children_of (children_from each)))) marks ∙ ap Some (children_listed each))
+
+-- those of what has an op of plans
+pub plan_operands_are : (source : Source) (trees : List Source) → Some trees ≡ plan_operands_in source → Some trees ≡ operands_in source
+plan_operands_are (node (Plain op) children) trees are = are
+plan_operands_are (node op children) trees are = absurd cc
+
+children_unwritten : (children : Trees SourceOp) → all_unwritten children ≡ children_from (map unwritten (children_of children))
+children_unwritten no_more = refl
+children_unwritten (more child rest) = ap (more (unwritten child)) (children_unwritten rest)
+
+-- such a one is its op over them in a plan, and any other is none
+pub over_operands : (source : Source) (trees : List Source) → Some trees ≡ plan_operands_in source → unwritten source ≡ node (top_op (unwritten source)) (children_from (map unwritten trees))
+over_operands (node (Plain op) children) trees are =
+    let same : children_of children ≡ trees = cc in
+    ap (node op) (children_unwritten children ∙ ap (λ l. children_from (map unwritten l)) same)
+over_operands (node op children) trees are = absurd cc
+
+pub none_of_plans : (source : Source) → None ≡ plan_operands_in source → unwritten source ≡ node LenOp no_more
+none_of_plans (node (Plain op) children) none = absurd cc
+none_of_plans (node op children) none = refl
 
 -- what a list lends at a place
 pub lent_at : {X A : Type 0} (view : X → A) (items : List X) (place : ℕ) (lent : Option (Bor X)) → IsItemAt items place lent → option_map (λ item. view item.now) lent ≡ slice_get (map view items) place
@@ -145,11 +165,12 @@ function_of_plans (FieldByIndex place) = refl
 function_of_plans _ = refl
 
 -- of what is an op of plans over operands
-pub root_of_operands : (expr : Expr) (trees : List Source) → Some trees ≡ operands_in (tree_of expr) → ((name : PlSmallStr) → expr ≡ Column name → ⊥) → true ≡ is_of_plans (top_op (tree_of expr)) → first_root_of trees ≡ root_name (plain_tree expr)
-root_of_operands (Column name) trees are column plans = absurd (column name refl)
-root_of_operands (KeepName' p inner) trees are column plans = absurd cc
-root_of_operands (RenameAlias' function p inner) trees are column plans = absurd cc
-root_of_operands (Exclude' p marker own) trees are column plans = absurd cc
-root_of_operands (Selector own) trees are column plans = absurd cc
-root_of_operands (Function' shape input (FieldByIndex place)) trees are column plans = absurd cc
-root_of_operands expr trees are column plans = ap first_root_of (same_children (tree_of expr) trees are) ∙ sym (roots_listed (under (tree_of expr)))
+pub root_of_operands : (expr : Expr) (trees : List Source) → Some trees ≡ plan_operands_in (tree_of expr) → ((name : PlSmallStr) → expr ≡ Column name → ⊥) → first_root_of trees ≡ root_name (plain_tree expr)
+root_of_operands (Column name) trees are column = absurd (column name refl)
+root_of_operands (KeepName' p inner) trees are column = absurd cc
+root_of_operands (RenameAlias' function p inner) trees are column = absurd cc
+root_of_operands (Exclude' p marker own) trees are column = absurd cc
+root_of_operands (Selector own) trees are column = absurd cc
+root_of_operands (Function' shape input (FieldByIndex place)) trees are column = absurd cc
+root_of_operands expr trees are column =
+    ap first_root_of (same_children (tree_of expr) trees (plan_operands_are (tree_of expr) trees are)) ∙ sym (roots_listed (under (tree_of expr)))

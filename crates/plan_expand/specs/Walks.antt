@@ -30,6 +30,11 @@ is_of_plans op = false
 abbrev pub operands_in : Source → Option (List Source)
 operands_in (node op children) = if is_marker op then None else Some (children_of children)
 
+-- the operands of what has an op of plans
+abbrev pub plan_operands_in : Source → Option (List Source)
+plan_operands_in (node (Plain op) children) = Some (children_of children)
+plan_operands_in source = None
+
 -- the operands as a list, of which a marker has none
 abbrev pub operand_list : Source → List Source
 operand_list source = unwrap_or (operands_in source) []

@@ -10,7 +10,7 @@ ghost use Rattle.plan_dsl.specs.Trees.{node, no_more, more};
 ghost use Rattle.plan_expand.specs.Names.{as_number, excluded_name, excluded_type, is_of_type, selected};
 ghost use Rattle.plan_expand.specs.Refusals.{IsUnexpanded};
 ghost use Rattle.plan_expand.specs.Changes.{only_column, own_field_named};
-ghost use Rattle.plan_expand.specs.Walks.{first_marker, first_marker_of, first_root_of, is_of_plans, operand_list, operands_in, over};
+ghost use Rattle.plan_expand.specs.Walks.{first_marker, first_marker_of, first_root_of, is_of_plans, operand_list, operands_in, over, plan_operands_in};
 
 /// A refusal is out of memory, or one of the kinds that the answer tells, at the empty place.
 pub fn refusals_of_selectors()
@@ -37,6 +37,7 @@ pub fn names_and_types()
 pub fn first_ones()
     ensures marker { first_marker (node (Plain FilterOp) (more (node (Plain ExplodeOp) (more (node (NthOp (pos 1)) no_more) no_more)) (more (node WildcardOp no_more) no_more))) ≡ Some (node (NthOp (pos 1)) no_more) }
     ensures operands { (operands_in (node (Plain FilterOp) (more (node (NthOp (pos 1)) no_more) (more (node WildcardOp no_more) no_more))) ≡ Some (node (NthOp (pos 1)) no_more ∷ node WildcardOp no_more ∷ [])) × (operands_in (node WildcardOp no_more) ≡ None) }
+    ensures of_plans { (plan_operands_in (node (Plain FilterOp) (more (node (NthOp (pos 1)) no_more) (more (node WildcardOp no_more) no_more))) ≡ Some (node (NthOp (pos 1)) no_more ∷ node WildcardOp no_more ∷ [])) × (plan_operands_in (node (FieldAtOp (pos 0)) (more (node WildcardOp no_more) no_more)) ≡ None) }
     ensures none { first_marker (node (Plain (ColumnOp (codes "a"))) no_more) ≡ None }
     ensures of_several { first_marker_of (node (Plain (ColumnOp (codes "a"))) no_more ∷ node WildcardOp no_more ∷ node (NthOp (pos 1)) no_more ∷ []) ≡ Some (node WildcardOp no_more) }
     ensures root { first_root_of (node WildcardOp no_more ∷ node (Plain (ColumnOp (codes "b"))) no_more ∷ node (Plain (ColumnOp (codes "c"))) no_more ∷ []) ≡ Some (codes "b") }

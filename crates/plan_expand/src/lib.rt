@@ -8,4 +8,4 @@ mod markers;
 mod operands;
 pub mod selectors;
 mod spreading;
-mod walks;
+pub mod walks;

@@ -1,4 +1,4 @@
-//! Walks over expressions: their markers, and their first column.
+//! Walks over expressions, operand by operand: their markers, and their first column.
 ghost use Rattle.std.specs.Prelude.{◌≡◌, ◌∷◌, ◌++◌, length, slice_get};
 ghost use Rattle.std.specs.List.{list_all};
 ghost use Rattle.std.specs.Option.{option_map};
@@ -6,15 +6,15 @@ ghost use Rattle.plan_dsl.specs.Expansion.{markers_in, root_name};
 ghost use Rattle.plan_dsl.specs.Expressions.{order_trees, plain_tree, tree_of, trees_of};
 ghost use Rattle.plan_dsl.specs.Sources.{same_source};
 ghost use Rattle.plan_dsl.specs.Trees.{top_op};
-ghost use Rattle.plan_expand.specs.Walks.{first_marker, is_of_plans, operand_trees, operands_in};
+ghost use Rattle.plan_expand.specs.Walks.{first_marker, is_of_plans, operand_trees, operands_in, plan_operands_in};
 
 use plan_dsl::expr::{Expr, Exprs};
 use plan_dsl::sort_options::SortOptions;
 use plan_types::text::PlSmallStr;
 
-// The operands of an expression, in order.
+/// The operands of an expression, in order.
 #[derive(Clone, Copy)]
-enum Operands<'a> {
+pub enum Operands<'a> {
     Leaf,
     One(&'a Expr),
     Two(&'a Expr, &'a Expr),
@@ -82,8 +82,19 @@ fn of_window<'a>(
     }
 }
 
-// How many operands there are.
-fn count_of(operands: Operands<'_>) -> usize
+/// The operands of an expression that has an op of plans, in order.
+pub fn plan_operands(expr: &Expr) -> Option<Operands<'_>>
+    ensures { option_map operand_trees result ≡ plan_operands_in (tree_of expr.now) }
+{
+    if is_of_plans(expr) {
+        operands_of(expr)
+    } else {
+        None
+    }
+}
+
+/// How many operands there are.
+pub fn count_of(operands: Operands<'_>) -> usize
     ensures { result ≡ length (operand_trees operands.entry) }
 {
     match operands {
@@ -97,8 +108,8 @@ fn count_of(operands: Operands<'_>) -> usize
     }
 }
 
-// The operand at a place.
-fn operand_at<'a>(operands: Operands<'a>, place: usize) -> Option<&'a Expr>
+/// The operand at a place.
+pub fn operand_at<'a>(operands: Operands<'a>, place: usize) -> Option<&'a Expr>
     ensures { option_map (λ operand. tree_of operand.now) result ≡ slice_get (operand_trees operands.entry) place }
 {
     match operands {
@@ -155,10 +166,7 @@ pub(crate) fn root_name(expr: &Expr) -> Option<&PlSmallStr>
     if let Expr::Column(name) = expr {
         return Some(name);
     }
-    if !is_of_plans(expr) {
-        return None;
-    }
-    let operands = operands_of(expr)?;
+    let operands = plan_operands(expr)?;
     for place in 0..count_of(operands) {
         let operand = operand_at(operands, place)?;
         if let Some(name) = root_name(operand) {

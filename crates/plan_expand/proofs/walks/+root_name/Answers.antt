@@ -1,12 +1,12 @@
 use Rattle.std.proofs.Common.{sym, ◌∙◌, arith}
 use Rattle.plan_dsl.specs.Expressions.{tree_of}
 use Rattle.plan_expand.specs.Walks.{operand_trees}
-use Rattle.plan_expand.proofs.WalkLemmas.{not_past, operand_below, root_behind, root_found, root_of_operands}
+use Rattle.plan_expand.proofs.WalkLemmas.{not_past, operand_below, plan_operands_are, root_behind, root_found, root_of_operands}
 use Rattle.plan_expand.proofs.walks.+root_name.Goals as goal
 
 pub loop-place-init : goal.loop-place-init
 loop-place-init t c =
-    sym (root_of_operands c.args.expr.now (operand_trees c.in_ok-operands.operands) c.in_ok-operands.ensures c.in_default.not-Column c.if-not-is_of_plans.ensures)
+    sym (root_of_operands c.args.expr.now (operand_trees c.in_ok-operands.operands) c.in_ok-operands.ensures c.in_default.not-Column)
 
 pub returns-in_err-operand : goal.returns-in_err-operand
 returns-in_err-operand t c =
@@ -14,7 +14,7 @@ returns-in_err-operand t c =
 
 pub root_name-requires : goal.root_name-requires
 root_name-requires t c =
-    let below = operand_below (tree_of c.args.expr.now) (operand_trees c.in_ok-operands.operands) c.loop-place.place (tree_of c.in_ok-operand.operand.now) c.in_ok-operands.ensures c.in_ok-operand.ensures in
+    let below = operand_below (tree_of c.args.expr.now) (operand_trees c.in_ok-operands.operands) c.loop-place.place (tree_of c.in_ok-operand.operand.now) (plan_operands_are (tree_of c.args.expr.now) (operand_trees c.in_ok-operands.operands) c.in_ok-operands.ensures) c.in_ok-operand.ensures in
     (omega (arith, c.decreases, below), tt)
 
 pub returns-in-Some : goal.returns-in-Some
