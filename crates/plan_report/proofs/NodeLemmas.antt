@@ -2,6 +2,7 @@
 use Rattle.std.proofs.Common.{◌≡◌, ℕ, ◌<◌, List, [], ◌∷◌, ◌++◌, map, Some, slice_get, refl, sym, ap, ◌∙◌, subst, append_assoc}
 use Rattle.std.specs.List.{AllByRecursion}
 use Rattle.std.proofs.lemmas.List.{append-nil}
+use Rattle.std.proofs.lemmas.Option.{same_Some}
 use Rattle.plan_types.specs.Schemas.{Columns}
 use Rattle.plan_dsl.specs.Trees.{Trees, node, no_more, more}
 use Rattle.plan_dsl.specs.Ops.{Op, Expression}
@@ -9,11 +10,12 @@ use Rattle.plan_dsl.specs.Plans.{Named, PlanKind, ScanKind, SelectKind, HStackKi
 use Rattle.plan_dsl.specs.PlanRules.{schema_of}
 use Rattle.plan_dsl.specs.Registry.{Registry}
 use Rattle.plan_arena.specs.Denotation.{Denotes, DenoteAll, DenotesTree, depth_at}
-use Rattle.plan_arena.specs.Layers.{Layer, layer, op_of, shape_of}
+use Rattle.plan_arena.specs.Layers.{Layer, inputs_of, layer, op_of, shape_of}
 use Rattle.plan_arena.specs.Items.{expression_layer, plan_layer, kind_text, node_name, HoldsExpression, DenotesKind, HoldsPlan, DenotesItem}
 use Rattle.plan_arena.specs.Runs.{IsAccepted, AllAccepted}
 use Rattle.plan_arena.specs.declared.aexpr.AExpr.{AExpr}
 use Rattle.plan_arena.specs.declared.ir.IR.{IR}
+use Rattle.plan_arena.specs.declared.ir.IR.TheVariants.{Filter, GroupBy, HStack, Select, SimpleProjection}
 use Rattle.plan_arena.proofs.DenotationLemmas.{some_same, inputs_denote, denotes_one}
 use Rattle.plan_arena.proofs.ItemLemmas.{layer_op, layer_inputs, expression_laws, plan_laws, plan_got, expression_got, item_denotes, filter_item}
 use Rattle.plan_report.specs.Casts.{DenoteOutputs}
@@ -153,3 +155,23 @@ module _ (expressions : List AExpr) (plans : List IR) (n : ℕ) (item : IR) (got
 pub whole_report : (registry : Registry) (tree : Plan) (start path lined text : List ℕ) (count : ℕ) → start ≡ [] → path ≡ [] → lined ≡ start ++ plan_lines registry path tree → count ≡ cast_count tree → text ≡ lined ++ casts_line count → text ≡ report_text registry tree
 whole_report registry tree start path lined text count none top lines casts last =
     last ∙ (λ i. (lines ∙ (λ j. none j ++ plan_lines registry (top j) tree)) i ++ casts_line (casts i))
+
+-- ---- an only input
+
+layered : {Op : Type 0} (l : Layer Op) (ns : List ℕ) → inputs_of l ≡ ns → l ≡ layer (op_of l) ns
+layered (layer op inputs) ns e = ap (layer op) e
+
+single : (item : IR) (m : ℕ) → slice_get (inputs_of (plan_layer item)) 0 ≡ Some m → inputs_of (plan_layer item) ≡ m ∷ []
+single (Select expr input schema options) m e = ap (λ n. n ∷ []) (same_Some _ m e)
+single (HStack exprs input schema options) m e = ap (λ n. n ∷ []) (same_Some _ m e)
+single (GroupBy input keys aggs schema maintain_order) m e = ap (λ n. n ∷ []) (same_Some _ m e)
+single (Filter input predicate) m e = ap (λ n. n ∷ []) (same_Some _ m e)
+single (SimpleProjection input schema) m e = ap (λ n. n ∷ []) (same_Some _ m e)
+single _ m e = cc
+
+-- an item over none, and one with a first input, which is its only one
+pub no_input : (item : IR) → inputs_of (plan_layer item) ≡ [] → plan_layer item ≡ layer (op_of (plan_layer item)) []
+no_input item e = layered (plan_layer item) [] e
+
+pub only_input : (item : IR) (m : ℕ) → slice_get (inputs_of (plan_layer item)) 0 ≡ Some m → plan_layer item ≡ layer (op_of (plan_layer item)) (m ∷ [])
+only_input item m e = layered (plan_layer item) (m ∷ []) (single item m e)

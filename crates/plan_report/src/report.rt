@@ -82,12 +82,11 @@ fn steps_of(alloc: Global, place: &Place) -> Result<Vec<u64>, AllocError>
     Ok(steps)
 }
 
-// Appends the lines of a node's only input, whose frame has a schema of its own.
+// Appends the lines of a node's only input, whose frame has the schema.
 macro_rules! lines_below {
-    ($alloc:ident, $text:ident, $path:ident, $plan:ident, $input:ident) => {{
-        let schema = $plan.lp_arena.get(*$input).schema_ref(&$plan.lp_arena);
+    ($alloc:ident, $text:ident, $path:ident, $plan:ident, $input:expr, $schema:expr) => {{
         $path.push(ONLY_INPUT)?;
-        push_lines($alloc, $text, $path, $plan, *$input, schema)?;
+        push_lines($alloc, $text, $path, $plan, $input, $schema)?;
         $path.pop();
         Ok(())
     }};
@@ -112,18 +111,14 @@ fn push_lines(
     let item = plan.lp_arena.get(node);
     push_line(alloc, text, path.as_slice(), item.name(), schema)?;
     match item {
-        IR::DataFrameScan { .. } => Ok(()),
-        IR::Invalid => unreachable!(),
-        IR::Filter { input, .. } => {
-            path.push(ONLY_INPUT)?;
-            push_lines(alloc, text, path, plan, *input, schema)?;
-            path.pop();
-            Ok(())
-        }
-        IR::Select { input, .. } => lines_below!(alloc, text, path, plan, input),
-        IR::HStack { input, .. } => lines_below!(alloc, text, path, plan, input),
-        IR::GroupBy { input, .. } => lines_below!(alloc, text, path, plan, input),
-        IR::SimpleProjection { input, .. } => lines_below!(alloc, text, path, plan, input),
+        IR::Filter { input, .. } => lines_below!(alloc, text, path, plan, *input, schema),
+        _ => match item.get_input() {
+            None => Ok(()),
+            Some(input) => {
+                let schema = plan.lp_arena.get(input).schema_ref(&plan.lp_arena);
+                lines_below!(alloc, text, path, plan, input, schema)
+            }
+        },
     }
 }
 
