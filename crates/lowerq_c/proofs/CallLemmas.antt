@@ -1,5 +1,5 @@
 -- What is handed out, and statuses by their numbers.
-use Rattle.std.proofs.Common.{◌≡◌, ℕ, List, [], ◌∷◌, length, Contains, refl, arith}
+use Rattle.std.proofs.Common.{◌≡◌, ℕ, zero, suc, List, [], ◌∷◌, length, Contains, refl, subst, arith}
 use Rattle.plan_types.specs.declared.error.PlanError.{PlanError}
 use Rattle.plan_json.specs.declared.error.JsonError.{JsonError}
 use Rattle.query_run.specs.Answers.{status_number}
@@ -12,35 +12,31 @@ use Rattle.lowerq_c.specs.Calls.{overwritten, Hands}
 pub handed : (P : List ℕ → Type 0) (text before after : List ℕ) (told : ℕ) → told ≡ length text → after ≡ overwritten text before → P text → Hands P before after told
 handed P text before after told whole front p = (text, (record { whole = whole; front = front }, p))
 
+-- what a number tells of a status
+abbrev Tells : ℕ → Status → Type 0
+Tells zero ending = ending ≡ status.Lowered
+Tells (suc zero) ending = (error : PlanError) × (ending ≡ status.Refused error)
+Tells (suc (suc (suc zero))) ending = (error : JsonError) × (ending ≡ status.BadQuery error)
+Tells _ ending = Unit {0}
+
+own_number : (ending : Status) → Tells (status_number ending) ending
+own_number status.Lowered = refl
+own_number (status.Refused error) = (error, refl)
+own_number status.Usage = tt
+own_number (status.BadQuery error) = (error, refl)
+own_number status.ReadFault = tt
+own_number status.WriteFault = tt
+own_number status.NoMemory = tt
+own_number status.TooLong = tt
+
 pub is_lowered : (ending : Status) → status_number ending ≡ 0 → ending ≡ status.Lowered
-is_lowered status.Lowered e = refl
-is_lowered (status.Refused error) e = absurd (omega (arith, e))
-is_lowered status.Usage e = absurd (omega (arith, e))
-is_lowered (status.BadQuery error) e = absurd (omega (arith, e))
-is_lowered status.ReadFault e = absurd (omega (arith, e))
-is_lowered status.WriteFault e = absurd (omega (arith, e))
-is_lowered status.NoMemory e = absurd (omega (arith, e))
-is_lowered status.TooLong e = absurd (omega (arith, e))
+is_lowered ending e = subst (λ n. Tells n ending) e (own_number ending)
 
 pub is_refused : (ending : Status) → status_number ending ≡ 1 → (error : PlanError) × (ending ≡ status.Refused error)
-is_refused (status.Refused error) e = (error, refl)
-is_refused status.Lowered e = absurd (omega (arith, e))
-is_refused status.Usage e = absurd (omega (arith, e))
-is_refused (status.BadQuery error) e = absurd (omega (arith, e))
-is_refused status.ReadFault e = absurd (omega (arith, e))
-is_refused status.WriteFault e = absurd (omega (arith, e))
-is_refused status.NoMemory e = absurd (omega (arith, e))
-is_refused status.TooLong e = absurd (omega (arith, e))
+is_refused ending e = subst (λ n. Tells n ending) e (own_number ending)
 
 pub is_bad_query : (ending : Status) → status_number ending ≡ 3 → (error : JsonError) × (ending ≡ status.BadQuery error)
-is_bad_query (status.BadQuery error) e = (error, refl)
-is_bad_query status.Lowered e = absurd (omega (arith, e))
-is_bad_query (status.Refused error) e = absurd (omega (arith, e))
-is_bad_query status.Usage e = absurd (omega (arith, e))
-is_bad_query status.ReadFault e = absurd (omega (arith, e))
-is_bad_query status.WriteFault e = absurd (omega (arith, e))
-is_bad_query status.NoMemory e = absurd (omega (arith, e))
-is_bad_query status.TooLong e = absurd (omega (arith, e))
+is_bad_query ending e = subst (λ n. Tells n ending) e (own_number ending)
 
 -- the numbers of statuses that are neither a fault nor the usage
 abbrev numbers : List ℕ
