@@ -13,11 +13,9 @@ use Rattle.plan_json.specs.declared.forms.Place.{Place}
 use Rattle.plan_json.specs.declared.forms.Place.TheVariants as places
 use Rattle.plan_json.specs.declared.forms.Places.{Places}
 use Rattle.plan_json.specs.declared.forms.Places.TheVariants as counts
-use Rattle.plan_json.specs.Arguments.{arg_view, args_view}
+use Rattle.plan_json.specs.Arguments.{args_view}
 use Rattle.plan_json.specs.declared.arguments.Args.{Args}
-use Rattle.plan_json.specs.declared.arguments.Args.TheVariants.{Listed}
 use Rattle.serde_json.specs.Find.{as_bool}
-use Rattle.plan_json.specs.declared.arguments.Items.{Items as ListedItems}
 use Rattle.plan_json.proofs.ItemLemmas.{mapped, chained, opened}
 
 -- ---- one thing
@@ -133,6 +131,6 @@ taken (suc k) zero rs e = cc
 taken (suc k) (suc n) [] e = refl
 taken (suc k) (suc n) (r ∷ rs) e = ap (λ l. r ∷ l) (taken k n rs (omega (arith, e)))
 
--- a list of so many items shows the first of the four that it holds
-pub listed_shows : (k : ℕ) (args : Args) (items : ListedItems) → args ≡ Listed items → length (args_view args) ≡ k → args_view args ≡ take k (arg_view items.first ∷ arg_view items.second ∷ arg_view items.third ∷ arg_view items.fourth ∷ [])
-listed_shows k args items is count = ap args_view is ∙ taken k items.count _ (ap (λ a. length (args_view a)) (sym is) ∙ count)
+-- where so many of them are shown, the first so many are
+pub shows : (k n : ℕ) (args : Args) (rs : List Read) → args_view args ≡ take n rs → length (args_view args) ≡ k → args_view args ≡ take k rs
+shows k n args rs seen count = seen ∙ taken k n rs (ap length (sym seen) ∙ count)

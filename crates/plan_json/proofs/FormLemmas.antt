@@ -2,7 +2,7 @@
 use Rattle.plan_json.proofs.Names.{Bool, List, None, Option, Some, [], ap, arith, bytes_eq, cond, false, get_or, is_some, length, map, ne_eqb, option_and_then, option_map, refl, slice_get, subst, suc, sym, take, true, zero, ℕ, ◌&&◌, ◌||◌, ◌++◌, ◌<◌, ◌==◌, ◌∙◌, ◌∷◌, ◌≡◌, ◌≤◌, asked_form, items_of, key, key_form, keyed_form, number, own_fault, part, part_of, places_form, shape_fault, unless, all_of, both, only_member, items_view, view, Name, Data, Items, array, item, no_items, Declared, as_array, at, get_item, Asked, Read, a_form, asks, expression_read, expressions_in, flag_read, flags_in, key_named, leaves_read, list_read, many, many_read, name_read, place_view, ty, type_read, ℤ, reads_of, row_named, says, IsItem, each_as, front, places_as, read_as, these_as, option_map_or, escaped, Value, items_len-items_view, eq-eqb, length-map, items_len, bytes_eq-Decides, Kind, Key, tree_of, slice_get-map, slice_get-get_or, trees_of, SortByOp, expression_says, same_Some, and_parts, Box, Global}
 use Rattle.plan_json.specs.declared.forms.Place.{Place}
 use Rattle.plan_dsl.specs.Expressions.{excluded_of}
-use Rattle.plan_dsl.specs.Sources.{FieldAtOp, Plain, Source}
+use Rattle.plan_dsl.specs.Sources.{Plain, Source}
 use Rattle.plan_dsl.specs.declared.marker.Excluded.{Excluded}
 use Rattle.plan_types.specs.declared.dtype.DataType.{DataType}
 use Rattle.plan_json.specs.Forms.{excluded_in, excluded_read, function_read, index_read, indexes_in, names_in, expression, optional, order, order_items, order_read, order_says, selector_read, selectors_in, types_in}
@@ -11,12 +11,11 @@ use Rattle.plan_dsl.specs.Plans.{OrderOption, PlanOption, ProjectionOption, opti
 use Rattle.plan_dsl.specs.declared.plan.DslPlan.{DslPlan}
 use Rattle.plan_dsl.specs.declared.plan.DslPlan.TheVariants.{DataFrameScan, Filter', GroupBy', HStack', MapFunction', Select'}
 use Rattle.plan_dsl.specs.Expressions.{function_source, order_trees, way_of}
-use Rattle.plan_dsl.specs.Ops.{FunctionOp, WindowOp}
+use Rattle.plan_dsl.specs.Ops.{WindowOp}
 use Rattle.plan_dsl.specs.declared.function_expr.FunctionExpr.{FunctionExpr}
-use Rattle.plan_dsl.specs.declared.function_expr.FunctionExpr.TheVariants.{FieldByIndex, FieldByName}
 use Rattle.plan_dsl.specs.declared.sort_options.SortOptions.{SortOptions}
 use Rattle.plan_dsl.specs.declared.window.WindowType.{WindowType}
-use Rattle.plan_dsl.specs.Trees.{node, more, children_from}
+use Rattle.plan_dsl.specs.Trees.{node, more, no_more, children_from}
 use Rattle.plan_dsl.specs.declared.expr.Expr.{Expr, Function, SortBy, Window}
 use Rattle.plan_dsl.specs.declared.expr.Exprs.{Exprs}
 use Rattle.plan_dsl.specs.declared.sort_options.SortMultipleOptions.{SortMultipleOptions}
@@ -111,19 +110,9 @@ function_said input function =
     (λ i. Some (node (function_source function) (children_from (expressions_read (trees_of input) i))))
     ∙ ap (λ tree. Some tree) (sym (function_listed (Function input function) input function refl).is)
 
--- the field of a name, over one expression
-pub field_said : (input : Exprs) (expr : Expr) (name : Name) → input.items.items ≡ expr ∷ []
-    → expression_says of.Field (expression_read (tree_of expr) ∷ name_read name ∷ []) ≡ Some (tree_of (Function input (FieldByName name)))
-field_said input expr name one =
-    (λ i. Some (node (Plain (FunctionOp (FieldByName name) [])) (children_from (map tree_of (sym one i)))))
-    ∙ ap (λ tree. Some tree) (sym (function_listed (Function input (FieldByName name)) input (FieldByName name) refl).is)
-
--- the field at a place, over one expression
-pub field_at_said : (input : Exprs) (expr : Expr) (place : ℤ) → input.items.items ≡ expr ∷ []
-    → expression_says of.FieldAt (expression_read (tree_of expr) ∷ index_read place ∷ []) ≡ Some (tree_of (Function input (FieldByIndex place)))
-field_at_said input expr place one =
-    (λ i. Some (node (FieldAtOp place) (children_from (map tree_of (sym one i)))))
-    ∙ ap (λ tree. Some tree) (sym (function_listed (Function input (FieldByIndex place)) input (FieldByIndex place) refl).is)
+-- a function over one expression
+pub one_said : (input : Exprs) (expr : Expr) (function : FunctionExpr) → input.items.items ≡ expr ∷ [] → tree_of (Function input function) ≡ node (function_source function) (more (tree_of expr) no_more)
+one_said input expr function one = (function_listed (Function input function) input function refl).is ∙ (λ i. node (function_source function) (children_from (map tree_of (one i))))
 
 -- an order that is a list
 pub order_listed : (tables : Declared) (d : Data) (rs : List Read) (r : Read) → list_as tables order_items d ≡ Some rs → order_says rs ≡ Some r → read_as tables order d ≡ Some r

@@ -12,5 +12,6 @@ pub mod NameLemmas
 pub mod Names
 pub mod NoFaults
 pub mod OnLiterals
+pub mod ReaderLemmas
 pub mod TextTests
 pub mod WordLemmas

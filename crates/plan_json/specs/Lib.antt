@@ -7,5 +7,6 @@ pub mod Forms
 pub mod Leaves
 pub mod Looking
 pub mod Queries
+pub mod Readers
 pub mod Samples
 pub mod Tables

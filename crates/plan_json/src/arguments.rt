@@ -1,5 +1,5 @@
 //! What is read of a key's value, item by item, and taking it apart again.
-ghost use Rattle.std.specs.Prelude.{◌≡◌, ◌∷◌, [], false, true, length, map, Some};
+ghost use Rattle.std.specs.Prelude.{◌≡◌, ◌∷◌, [], ℕ, false, true, length, map, take, Some};
 ghost use Rattle.std.specs.Option.{option_map};
 ghost use Rattle.plan_dsl.specs.Expressions.{excluded_of, order_trees, selector_tree, selector_trees, tree_of, trees_of, way_of};
 ghost use Rattle.plan_dsl.specs.Literals.{literal_op};
@@ -83,14 +83,14 @@ fn spare(arg: Arg) {
     }
 }
 
+// What stands in the four places.
 #[inline(always)]
-pub(crate) fn one(args: Args) -> Arg
-    requires { length (args_view args) ≡ 1 }
-    ensures all { args_view args ≡ arg_view result ∷ [] }
-    ensures first { (p : Asked) → AllFit (p ∷ []) (args_view args) → Fits p (arg_view result) }
+fn parts(args: Args) -> (Arg, Arg, Arg, Arg)
+    ensures { (count : ℕ) → length (args_view args) ≡ count
+        → args_view args ≡ take count (arg_view result.0 ∷ arg_view result.1 ∷ arg_view result.2 ∷ arg_view result.3 ∷ []) }
 {
     match args {
-        Args::One(first) => first,
+        Args::One(first) => (first, Arg::Nothing, Arg::Nothing, Arg::Nothing),
         Args::Listed(
             Items {
                 first,
@@ -99,13 +99,21 @@ pub(crate) fn one(args: Args) -> Arg
                 fourth,
                 ..
             },
-        ) => {
-            spare(second);
-            spare(third);
-            spare(fourth);
-            first
-        }
+        ) => (first, second, third, fourth),
     }
+}
+
+#[inline(always)]
+pub(crate) fn one(args: Args) -> Arg
+    requires { length (args_view args) ≡ 1 }
+    ensures all { args_view args ≡ arg_view result ∷ [] }
+    ensures first { (p : Asked) → AllFit (p ∷ []) (args_view args) → Fits p (arg_view result) }
+{
+    let (first, second, third, fourth) = parts(args);
+    spare(second);
+    spare(third);
+    spare(fourth);
+    first
 }
 
 #[inline(always)]
@@ -115,22 +123,10 @@ pub(crate) fn two(args: Args) -> (Arg, Arg)
     ensures first { (p q : Asked) → AllFit (p ∷ q ∷ []) (args_view args) → Fits p (arg_view result.0) }
     ensures second { (p q : Asked) → AllFit (p ∷ q ∷ []) (args_view args) → Fits q (arg_view result.1) }
 {
-    match args {
-        Args::One(_) => unreachable!(),
-        Args::Listed(
-            Items {
-                first,
-                second,
-                third,
-                fourth,
-                ..
-            },
-        ) => {
-            spare(third);
-            spare(fourth);
-            (first, second)
-        }
-    }
+    let (first, second, third, fourth) = parts(args);
+    spare(third);
+    spare(fourth);
+    (first, second)
 }
 
 #[inline(always)]
@@ -141,21 +137,9 @@ pub(crate) fn three(args: Args) -> (Arg, Arg, Arg)
     ensures second { (p q r : Asked) → AllFit (p ∷ q ∷ r ∷ []) (args_view args) → Fits q (arg_view result.1) }
     ensures third { (p q r : Asked) → AllFit (p ∷ q ∷ r ∷ []) (args_view args) → Fits r (arg_view result.2) }
 {
-    match args {
-        Args::One(_) => unreachable!(),
-        Args::Listed(
-            Items {
-                first,
-                second,
-                third,
-                fourth,
-                ..
-            },
-        ) => {
-            spare(fourth);
-            (first, second, third)
-        }
-    }
+    let (first, second, third, fourth) = parts(args);
+    spare(fourth);
+    (first, second, third)
 }
 
 #[inline(always)]
@@ -167,28 +151,24 @@ pub(crate) fn four(args: Args) -> (Arg, Arg, Arg, Arg)
     ensures third { (p q r s : Asked) → AllFit (p ∷ q ∷ r ∷ s ∷ []) (args_view args) → Fits r (arg_view result.2) }
     ensures fourth { (p q r s : Asked) → AllFit (p ∷ q ∷ r ∷ s ∷ []) (args_view args) → Fits s (arg_view result.3) }
 {
-    match args {
-        Args::One(_) => unreachable!(),
-        Args::Listed(
-            Items {
-                first,
-                second,
-                third,
-                fourth,
-                ..
-            },
-        ) => { (first, second, third, fourth) }
-    }
+    parts(args)
+}
+
+// What stands in an argument of that kind.
+macro_rules! taken {
+    ($arg:ident, $kind:pat => $taken:expr) => {
+        match $arg {
+            $kind => $taken,
+            _ => unreachable!(),
+        }
+    };
 }
 
 pub(crate) fn name(arg: Arg) -> PlSmallStr
     requires { Fits (leaf leaves.Name) (arg_view arg) }
     ensures { arg_view arg ≡ name_read result }
 {
-    match arg {
-        Arg::Name(name) => Box::into_inner(name),
-        _ => unreachable!(),
-    }
+    taken!(arg, Arg::Name(name) => Box::into_inner(name))
 }
 
 // A literal, however it was written.
@@ -196,80 +176,56 @@ pub(crate) fn literal(arg: Arg) -> LiteralValue
     requires { is_literal (arg_view arg) ≡ true }
     ensures { arg_view arg ≡ literal_read (literal_op result) }
 {
-    match arg {
-        Arg::Literal(literal) => Box::into_inner(literal),
-        _ => unreachable!(),
-    }
+    taken!(arg, Arg::Literal(literal) => Box::into_inner(literal))
 }
 
 pub(crate) fn operator(arg: Arg) -> Operator
     requires { Fits (leaf (leaves.Small smalls.Operator)) (arg_view arg) }
     ensures { arg_view arg ≡ operator_read result }
 {
-    match arg {
-        Arg::Operator(operator) => operator,
-        _ => unreachable!(),
-    }
+    taken!(arg, Arg::Operator(operator) => operator)
 }
 
 pub(crate) fn method(arg: Arg) -> GroupByMethod
     requires { Fits (leaf (leaves.Small smalls.Method)) (arg_view arg) }
     ensures { arg_view arg ≡ method_read result }
 {
-    match arg {
-        Arg::Method(method) => method,
-        _ => unreachable!(),
-    }
+    taken!(arg, Arg::Method(method) => method)
 }
 
 pub(crate) fn function(arg: Arg) -> FunctionExpr
     requires { Fits (leaf leaves.Function) (arg_view arg) }
     ensures { arg_view arg ≡ function_read result }
 {
-    match arg {
-        Arg::Function(function) => Box::into_inner(function),
-        _ => unreachable!(),
-    }
+    taken!(arg, Arg::Function(function) => Box::into_inner(function))
 }
 
 pub(crate) fn dtype(arg: Arg) -> DataType
     requires { Fits (leaf leaves.Dtype) (arg_view arg) }
     ensures { arg_view arg ≡ type_read (ty result) }
 {
-    match arg {
-        Arg::Dtype(dtype) => Box::into_inner(dtype),
-        _ => unreachable!(),
-    }
+    taken!(arg, Arg::Dtype(dtype) => Box::into_inner(dtype))
 }
 
 pub(crate) fn mode(arg: Arg) -> CastOptions
     requires { Fits (leaf (leaves.Small smalls.Mode)) (arg_view arg) }
     ensures { arg_view arg ≡ mode_read result }
 {
-    match arg {
-        Arg::Mode(mode) => mode,
-        _ => unreachable!(),
-    }
+    taken!(arg, Arg::Mode(mode) => mode)
 }
 
 pub(crate) fn table(arg: Arg) -> (u32, Schema)
     requires { Fits (leaf leaves.Table) (arg_view arg) }
     ensures { arg_view arg ≡ table_read result.0 (columns result.1) }
 {
-    match arg {
-        Arg::Table(number, schema) => (number, Box::into_inner(schema)),
-        _ => unreachable!(),
-    }
+    taken!(arg, Arg::Table(number, schema) => (number, Box::into_inner(schema)))
 }
 
 pub(crate) fn columns(arg: Arg) -> Schema
     requires { Fits (leaf leaves.Columns) (arg_view arg) }
     ensures { arg_view arg ≡ columns_read (columns result) }
 {
-    match arg {
-        Arg::Columns(schema) => Box::into_inner(schema),
-        _ => unreachable!(),
-    }
+    taken!(arg, Arg::Columns(schema) => Box::into_inner(schema))
 }
 
 // Nothing is taken out, but what was read is dropped.
@@ -277,30 +233,21 @@ pub(crate) fn nothing(arg: Arg)
     requires { Fits (leaf (leaves.Small smalls.Nothing)) (arg_view arg) }
     ensures { arg_view arg ≡ nothing_read }
 {
-    match arg {
-        Arg::Nothing => {}
-        _ => unreachable!(),
-    }
+    taken!(arg, Arg::Nothing => {})
 }
 
 pub(crate) fn flag(arg: Arg) -> bool
     requires { Fits (leaf (leaves.Small smalls.Flag)) (arg_view arg) }
     ensures { arg_view arg ≡ flag_read result }
 {
-    match arg {
-        Arg::Flag(flag) => flag,
-        _ => unreachable!(),
-    }
+    taken!(arg, Arg::Flag(flag) => flag)
 }
 
 pub(crate) fn index(arg: Arg) -> i64
     requires { Fits (leaf (leaves.Small smalls.Index)) (arg_view arg) }
     ensures { arg_view arg ≡ index_read result }
 {
-    match arg {
-        Arg::Index(index) => index,
-        _ => unreachable!(),
-    }
+    taken!(arg, Arg::Index(index) => index)
 }
 
 // How rows are put in order, and by which expression, if they are.
@@ -308,10 +255,7 @@ pub(crate) fn order(arg: Arg) -> Option<(Box<Expr>, SortOptions)>
     requires { Fits order (arg_view arg) }
     ensures { arg_view arg ≡ order_read (way_of result) (order_trees result) }
 {
-    match arg {
-        Arg::Order(order) => order,
-        _ => unreachable!(),
-    }
+    taken!(arg, Arg::Order(order) => order)
 }
 
 // The order that a list says.
@@ -332,20 +276,14 @@ pub(crate) fn expression(arg: Arg) -> Box<Expr>
     requires { Fits expression (arg_view arg) }
     ensures { arg_view arg ≡ expression_read (tree_of result.value) }
 {
-    match arg {
-        Arg::Expression(expr) => expr,
-        _ => unreachable!(),
-    }
+    taken!(arg, Arg::Expression(expr) => expr)
 }
 
 pub(crate) fn selector(arg: Arg) -> Box<Selector>
     requires { Fits selector (arg_view arg) }
     ensures { arg_view arg ≡ selector_read (selector_tree result.value) }
 {
-    match arg {
-        Arg::Selector(selector) => selector,
-        _ => unreachable!(),
-    }
+    taken!(arg, Arg::Selector(selector) => selector)
 }
 
 pub(crate) fn plan(arg: Arg) -> Box<DslPlan>
@@ -353,10 +291,7 @@ pub(crate) fn plan(arg: Arg) -> Box<DslPlan>
     ensures tree { arg_view arg ≡ plan_read (plan_tree result.value) }
     ensures flags { has_flags result.value ≡ false }
 {
-    match arg {
-        Arg::Plan(plan) => plan,
-        _ => unreachable!(),
-    }
+    taken!(arg, Arg::Plan(plan) => plan)
 }
 
 // A list of expressions.
@@ -364,10 +299,7 @@ pub(crate) fn expressions(arg: Arg) -> Exprs
     requires { Fits (many expression) (arg_view arg) }
     ensures { arg_view arg ≡ many_read (reads_of (map expression_read (trees_of result))) }
 {
-    match arg {
-        Arg::Expressions(exprs) => Box::into_inner(exprs),
-        _ => unreachable!(),
-    }
+    taken!(arg, Arg::Expressions(exprs) => Box::into_inner(exprs))
 }
 
 // A list of expressions, if there is one.
@@ -387,10 +319,7 @@ pub(crate) fn selectors(arg: Arg) -> Selectors
     requires { Fits (many selector) (arg_view arg) }
     ensures { arg_view arg ≡ chosen_read (reads_of (map selector_read (selector_trees result))) }
 {
-    match arg {
-        Arg::Selectors(selectors) => Box::into_inner(selectors),
-        _ => unreachable!(),
-    }
+    taken!(arg, Arg::Selectors(selectors) => Box::into_inner(selectors))
 }
 
 // A list of truth values, in the box in which it was read.
@@ -398,10 +327,7 @@ pub(crate) fn flags(arg: Arg) -> Flags
     requires { Fits (many (leaf (leaves.Small smalls.Flag))) (arg_view arg) }
     ensures { arg_view arg ≡ leaves_read (leaves.Small smalls.Flag) (reads_of (map flag_read result.items.value.items)) }
 {
-    match arg {
-        Arg::Flags(items) => Flags { items },
-        _ => unreachable!(),
-    }
+    taken!(arg, Arg::Flags(items) => Flags { items })
 }
 
 // A list of what an exclude leaves out.
@@ -409,8 +335,5 @@ pub(crate) fn excluded(arg: Arg) -> Vec<Excluded>
     requires { Fits (many (leaf leaves.Excluded)) (arg_view arg) }
     ensures { arg_view arg ≡ leaves_read leaves.Excluded (reads_of (map (λ item. excluded_read (excluded_of item)) result.items)) }
 {
-    match arg {
-        Arg::AllExcluded(excluded) => Box::into_inner(excluded),
-        _ => unreachable!(),
-    }
+    taken!(arg, Arg::AllExcluded(excluded) => Box::into_inner(excluded))
 }

@@ -1,10 +1,10 @@
 //! Lists of columns.
-ghost use Rattle.std.specs.Prelude.{◌≡◌, [], Some, IfOk, IfErr};
+ghost use Rattle.std.specs.Prelude.{◌≡◌, [], IfOk, IfErr};
 ghost use Rattle.serde_json.specs.View.{view};
 ghost use Rattle.plan_types.specs.Schemas.{columns};
-ghost use Rattle.plan_json.specs.Errors.{IsErrorOf};
 ghost use Rattle.plan_json.specs.Faults.{column_list};
 ghost use Rattle.plan_json.specs.Leaves.{columns_of};
+ghost use Rattle.plan_json.specs.Readers.{IsReading};
 
 use super::dtype::read_column;
 use super::error::{JsonError, Step};
@@ -17,8 +17,7 @@ use std::alloc::Global;
 // A list of columns, no two of one name.
 #[inline(never)]
 pub(crate) fn read_columns(alloc: Global, value: &Value) -> Result<Schema, JsonError>
-    ensures ok { IfOk result (λ schema. columns_of (view value.now) ≡ Some (columns schema)) }
-    ensures err { IfErr result (IsErrorOf column_list (view value.now)) }
+    ensures { IsReading columns_of column_list (view value.now) result columns }
 {
     match items(value) {
         None => Err(JsonError::shape(alloc, value)),

@@ -5,6 +5,7 @@ ghost use Rattle.plan_types.specs.Schemas.{columns, names_of, is_among};
 ghost use Rattle.plan_json.specs.Errors.{IsErrorOf};
 ghost use Rattle.plan_json.specs.Faults.{table_list, a_table, a_new_name};
 ghost use Rattle.plan_json.specs.Leaves.{text_of, table_of, tables_of};
+ghost use Rattle.plan_json.specs.Readers.{IsReading};
 ghost use Rattle.plan_json.specs.Tables.{declared};
 
 use super::columns::read_columns;
@@ -18,8 +19,7 @@ use std::alloc::Global;
 
 // A list of tables, no two of one name.
 pub(crate) fn read_tables(alloc: Global, value: &Value) -> Result<Tables, JsonError>
-    ensures ok { IfOk result (λ tables. tables_of (view value.now) ≡ Some (declared tables)) }
-    ensures err { IfErr result (IsErrorOf table_list (view value.now)) }
+    ensures { IsReading tables_of table_list (view value.now) result declared }
 {
     match items(value) {
         None => Err(JsonError::shape(alloc, value)),

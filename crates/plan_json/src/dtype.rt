@@ -1,15 +1,15 @@
 //! Types, names and columns.
-ghost use Rattle.std.specs.Prelude.{◌≡◌, Some, IfOk, IfErr};
+ghost use Rattle.std.specs.Prelude.{◌≡◌};
 ghost use Rattle.std.specs.Option.{option_map};
 ghost use Rattle.serde_json.specs.View.{view};
 ghost use Rattle.plan_types.specs.Types.{fields_of, ty};
-ghost use Rattle.plan_json.specs.Errors.{IsErrorOf};
 ghost use Rattle.plan_json.specs.Faults.{a_column, a_text, a_type, a_unit, field_list, type_form};
 ghost use Rattle.plan_json.specs.Leaves.{column_of, integer_named, keyed_type, plain_named, struct_of, text_of, type_named, type_of, unit_named, unit_of};
+ghost use Rattle.plan_json.specs.Readers.{IsReading};
 
 use super::error::{JsonError, Step};
 use super::forms::{TypeKey, find_type};
-use super::value::{items, only_member, two_items};
+use super::value::{items, keyed, named, only_member, two_items};
 use plan_types::dtype::{DataType, Fields, TimeUnit};
 use plan_types::field::Field;
 use plan_types::text::PlSmallStr;
@@ -19,8 +19,7 @@ use std::alloc::Global;
 // A text.
 #[inline(always)]
 pub(crate) fn read_text(alloc: Global, value: &Value) -> Result<PlSmallStr, JsonError>
-    ensures ok { IfOk result (λ text. text_of (view value.now) ≡ Some text) }
-    ensures err { IfErr result (IsErrorOf a_text (view value.now)) }
+    ensures { IsReading text_of a_text (view value.now) result (λ text. text) }
 {
     match value.as_str() {
         None => Err(JsonError::shape(alloc, value)),
@@ -34,32 +33,22 @@ pub(crate) fn read_text(alloc: Global, value: &Value) -> Result<PlSmallStr, Json
 // A type: a name, or an object of one key, which names its form.
 #[cycle(types)]
 pub(crate) fn read_type(alloc: Global, value: &Value) -> Result<DataType, JsonError>
-    ensures ok { IfOk result (λ dtype. type_of (view value.now) ≡ Some (ty dtype)) }
-    ensures err { IfErr result (IsErrorOf a_type (view value.now)) }
+    ensures { IsReading type_of a_type (view value.now) result ty }
 {
     match value.as_str() {
         Some(name) => match type_named(name) {
             None => Err(JsonError::shape(alloc, value)),
             Some(dtype) => Ok(dtype),
         },
-        None => match only_member(value) {
-            None => Err(JsonError::shape(alloc, value)),
-            Some((word, inner)) => match find_type(word) {
-                None => Err(JsonError::shape(alloc, value)),
-                Some((word, key)) => match read_keyed(alloc, key, inner) {
-                    Err(error) => Err(error.below(alloc, Step::Key(word))),
-                    Ok(dtype) => Ok(dtype),
-                },
-            },
-        },
+        None =>
+            keyed!(alloc, value, word => find_type(word), (key, inner) => read_keyed(alloc, key, inner)),
     }
 }
 
 // The value of a type's key.
 #[cycle(types)]
 fn read_keyed(alloc: Global, key: TypeKey, value: &Value) -> Result<DataType, JsonError>
-    ensures ok { IfOk result (λ dtype. keyed_type key (view value.now) ≡ Some (ty dtype)) }
-    ensures err { IfErr result (IsErrorOf (type_form key) (view value.now)) }
+    ensures { IsReading (keyed_type key) (type_form key) (view value.now) result ty }
 {
     match key {
         TypeKey::Datetime => match read_unit(alloc, value) {
@@ -87,8 +76,7 @@ fn read_keyed(alloc: Global, key: TypeKey, value: &Value) -> Result<DataType, Js
 // The fields of a type of structs: a list of them, whose names may repeat.
 #[cycle(types)]
 fn read_fields(alloc: Global, value: &Value) -> Result<Fields, JsonError>
-    ensures ok { IfOk result (λ fields. struct_of (view value.now) ≡ Some (fields_of fields)) }
-    ensures err { IfErr result (IsErrorOf field_list (view value.now)) }
+    ensures { IsReading struct_of field_list (view value.now) result fields_of }
 {
     match items(value) {
         None => Err(JsonError::shape(alloc, value)),
@@ -109,9 +97,7 @@ fn read_fields(alloc: Global, value: &Value) -> Result<Fields, JsonError>
 #[cycle(types)]
 #[inline(always)]
 pub(crate) fn read_column(alloc: Global, value: &Value) -> Result<Field, JsonError>
-    ensures ok { IfOk result (λ field. column_of (view value.now)
-        ≡ Some (field.name, ty field.dtype)) }
-    ensures err { IfErr result (IsErrorOf a_column (view value.now)) }
+    ensures { IsReading column_of a_column (view value.now) result (λ field. (field.name, ty field.dtype)) }
 {
     match two_items(value) {
         None => Err(JsonError::shape(alloc, value)),
@@ -168,16 +154,9 @@ fn plain_named(name: &str) -> Option<DataType>
 
 // A unit of time, by its name.
 fn read_unit(alloc: Global, value: &Value) -> Result<TimeUnit, JsonError>
-    ensures ok { IfOk result (λ unit. unit_of (view value.now) ≡ Some unit) }
-    ensures err { IfErr result (IsErrorOf a_unit (view value.now)) }
+    ensures { IsReading unit_of a_unit (view value.now) result (λ unit. unit) }
 {
-    match value.as_str() {
-        None => Err(JsonError::shape(alloc, value)),
-        Some(name) => match unit_named(name) {
-            None => Err(JsonError::shape(alloc, value)),
-            Some(unit) => Ok(unit),
-        },
-    }
+    named!(alloc, value, unit_named)
 }
 
 // The unit of that name.

@@ -1,6 +1,7 @@
 //! Expressions, from what was read of a key's value: one function for each key of more than one item.
 ghost use Rattle.std.specs.Prelude.{◌≡◌, [], ◌∷◌, Some, IfOk, IfErr};
-ghost use Rattle.plan_dsl.specs.Expressions.{tree_of};
+ghost use Rattle.plan_dsl.specs.Expressions.{function_source, tree_of};
+ghost use Rattle.plan_dsl.specs.Trees.{more, no_more, node};
 ghost use Rattle.plan_json.specs.Arguments.{arg_view, args_view};
 ghost use Rattle.plan_json.specs.Forms.{AllFit, Fits, asked_in, expression_asks, expression_says, leaf, many, marker_asks, marker_says};
 ghost use Rattle.plan_json.specs.declared.forms.ExpressionKey.TheVariants as of;
@@ -199,12 +200,12 @@ fn field(alloc: Global, args: Args) -> Result<Expr, JsonError>
     ensures err { IfErr result (λ error. error ≡ JsonError.NoMemory) }
 {
     let (input, text) = two(args);
-    let mut items = Vec::with_capacity(alloc, 1)?;
-    items.push(Box::into_inner(expression(input)))?;
-    Ok(Expr::Function {
-        input: Exprs { items },
-        function: FunctionExpr::FieldByName(name(text)),
-    })
+    let expr = over_one(
+        alloc,
+        expression(input),
+        FunctionExpr::FieldByName(name(text)),
+    )?;
+    Ok(expr)
 }
 
 // The field of a struct at a place.
@@ -214,11 +215,24 @@ fn field_at(alloc: Global, args: Args) -> Result<Expr, JsonError>
     ensures err { IfErr result (λ error. error ≡ JsonError.NoMemory) }
 {
     let (input, place) = two(args);
+    let expr = over_one(
+        alloc,
+        expression(input),
+        FunctionExpr::FieldByIndex(index(place)),
+    )?;
+    Ok(expr)
+}
+
+// A function over one expression.
+fn over_one(alloc: Global, input: Box<Expr>, function: FunctionExpr) -> Result<Expr, JsonError>
+    ensures ok { IfOk result (λ expr. tree_of expr ≡ node (function_source function) (more (tree_of input.value) no_more)) }
+    ensures err { IfErr result (λ error. error ≡ JsonError.NoMemory) }
+{
     let mut items = Vec::with_capacity(alloc, 1)?;
-    items.push(Box::into_inner(expression(input)))?;
+    items.push(Box::into_inner(input))?;
     Ok(Expr::Function {
         input: Exprs { items },
-        function: FunctionExpr::FieldByIndex(index(place)),
+        function,
     })
 }
 

@@ -2,7 +2,9 @@
 ghost use Rattle.std.specs.Prelude.{◌≡◌, ◌≤◌, IfSome, length, map};
 ghost use Rattle.std.specs.Option.{option_map};
 ghost use Rattle.plan_json.specs.Errors.{escaped};
-ghost use Rattle.plan_json.specs.Forms.{asked_in, asks, excluded_rows, expression_asks, expression_rows, key_named, marker_asks, order_items, place_view, places_view, plan_asks, plan_rows, row_named, selector_asks, selector_rows, type_rows};
+ghost use Rattle.plan_json.specs.Forms.{asked_in, asks, excluded_rows, expression_asks, key_named, marker_asks, order_items, place_view, places_view, plan_asks, row_named, selector_asks, type_rows};
+ghost use Rattle.plan_json.specs.declared.forms.Key.TheVariants as keys;
+ghost use Rattle.plan_json.specs.declared.forms.Kind.TheVariants as kinds;
 
 // What an object of one key can be.
 #[derive(Clone, Copy)]
@@ -339,7 +341,7 @@ pub(crate) fn find_key(kind: Kind, word: &str) -> Option<(&'static str, Key)>
 // The key of expressions of that word. Most forms are columns and operators, whose words are told by their bytes.
 #[inline(always)]
 pub(crate) fn find_expression(word: &str) -> Option<(&'static str, ExpressionKey)>
-    ensures row { option_map (λ row. (row.0.now, row.1)) result ≡ row_named expression_rows word.now }
+    ensures row { option_map (λ row. (row.0.now, keys.Expression row.1)) result ≡ key_named kinds.Expression word.now }
     ensures word { IfSome result (λ row. row.0.now ≡ word.now) }
     ensures plain { IfSome result (λ row. escaped row.0.now ≡ row.0.now) }
 {

@@ -1,27 +1,21 @@
 //! Functions, by their names.
-ghost use Rattle.std.specs.Prelude.{◌≡◌, Some, IfOk, IfErr};
+ghost use Rattle.std.specs.Prelude.{◌≡◌};
 ghost use Rattle.serde_json.specs.View.{view};
-ghost use Rattle.plan_json.specs.Errors.{IsErrorOf};
 ghost use Rattle.plan_json.specs.Faults.{a_function};
 ghost use Rattle.plan_json.specs.Leaves.{function_named, function_of};
+ghost use Rattle.plan_json.specs.Readers.{IsReading};
 
 use super::error::JsonError;
+use super::value::named;
 use plan_dsl::function_expr::FunctionExpr;
 use serde_json::Value;
 use std::alloc::Global;
 
 // The function of a name, of those that are written by it alone.
 pub(crate) fn read_function(alloc: Global, value: &Value) -> Result<FunctionExpr, JsonError>
-    ensures ok { IfOk result (λ function. function_of (view value.now) ≡ Some function) }
-    ensures err { IfErr result (IsErrorOf a_function (view value.now)) }
+    ensures { IsReading function_of a_function (view value.now) result (λ function. function) }
 {
-    match value.as_str() {
-        None => Err(JsonError::shape(alloc, value)),
-        Some(name) => match function_named(name) {
-            None => Err(JsonError::shape(alloc, value)),
-            Some(function) => Ok(function),
-        },
-    }
+    named!(alloc, value, function_named)
 }
 
 // The function of that name. A list's value past its end is a fault, or null.

@@ -10,6 +10,7 @@ ghost use Rattle.plan_json.specs.Faults.{an_index, flag_form, leaf_form};
 ghost use Rattle.plan_json.specs.Forms.{Read, excluded_read, flag_read, index_read, leaf, leaves_read, many, name_read, reads_of, type_read};
 ghost use Rattle.plan_json.specs.Leaves.{index_of};
 ghost use Rattle.plan_json.specs.Queries.{leaf_of, read_as};
+ghost use Rattle.plan_json.specs.Readers.{IsReading};
 ghost use Rattle.plan_json.specs.Tables.{Declared};
 ghost use Rattle.plan_json.specs.declared.forms.Leaf.{Leaf};
 ghost use Rattle.plan_json.specs.declared.forms.Leaf.TheVariants as leaves;
@@ -113,8 +114,7 @@ pub(crate) fn read_list<T: ListItem>(alloc: Global, value: &Value) -> Result<Box
 
 // True or false.
 pub(crate) fn read_flag(alloc: Global, value: &Value) -> Result<bool, JsonError>
-    ensures ok { IfOk result (λ flag. as_bool (view value.now) ≡ Some flag) }
-    ensures err { IfErr result (IsErrorOf flag_form (view value.now)) }
+    ensures { IsReading as_bool flag_form (view value.now) result (λ flag. flag) }
 {
     match value.as_bool() {
         None => Err(JsonError::shape(alloc, value)),
@@ -124,8 +124,7 @@ pub(crate) fn read_flag(alloc: Global, value: &Value) -> Result<bool, JsonError>
 
 // A whole number of 64 bits with a sign.
 pub(crate) fn read_index(alloc: Global, value: &Value) -> Result<i64, JsonError>
-    ensures ok { IfOk result (λ index. index_of (view value.now) ≡ Some index) }
-    ensures err { IfErr result (IsErrorOf an_index (view value.now)) }
+    ensures { IsReading index_of an_index (view value.now) result (λ index. index) }
 {
     match value.as_i64() {
         None => Err(JsonError::shape(alloc, value)),

@@ -1,11 +1,11 @@
 //! Literals.
-ghost use Rattle.std.specs.Prelude.{◌≡◌, ◌==◌, Some, None, slice_index, IfOk, IfErr, MatchOption};
+ghost use Rattle.std.specs.Prelude.{◌≡◌, ◌==◌, Some, None, slice_index, MatchOption};
 ghost use Rattle.serde_json.specs.View.{view};
 ghost use Rattle.plan_dsl.specs.Literals.{literal_op};
 ghost use Rattle.plan_types.specs.Types.{ty};
-ghost use Rattle.plan_json.specs.Errors.{IsErrorOf};
 ghost use Rattle.plan_json.specs.Faults.{a_counted_type, a_literal, a_number_of, a_number_text, a_typed_literal, literal_form};
 ghost use Rattle.plan_json.specs.Leaves.{counted_of, literal_of, literal_written, number_of, number_text_of, number_written, typed_of};
+ghost use Rattle.plan_json.specs.Readers.{IsReading};
 
 use super::dtype::read_type;
 use super::error::{JsonError, Step};
@@ -23,8 +23,7 @@ pub(crate) fn read_written(
     how: Writing,
     value: &Value,
 ) -> Result<LiteralValue, JsonError>
-    ensures ok { IfOk result (λ literal. literal_written how (view value.now) ≡ Some (literal_op literal)) }
-    ensures err { IfErr result (IsErrorOf (literal_form how) (view value.now)) }
+    ensures { IsReading (literal_written how) (literal_form how) (view value.now) result literal_op }
 {
     match how {
         Writing::AsIs => read_literal(alloc, value),
@@ -36,8 +35,7 @@ pub(crate) fn read_written(
 // A literal that is written as it is: null, a truth value, a text, or a whole number, which has no type.
 #[inline(never)]
 fn read_literal(alloc: Global, value: &Value) -> Result<LiteralValue, JsonError>
-    ensures ok { IfOk result (λ literal. literal_of (view value.now) ≡ Some (literal_op literal)) }
-    ensures err { IfErr result (IsErrorOf a_literal (view value.now)) }
+    ensures { IsReading literal_of a_literal (view value.now) result literal_op }
 {
     match value {
         Value::Null => Ok(LiteralValue::Null),
@@ -57,8 +55,7 @@ fn read_literal(alloc: Global, value: &Value) -> Result<LiteralValue, JsonError>
 // A text that writes a whole number, which has no type.
 #[inline(never)]
 fn read_number_text(alloc: Global, value: &Value) -> Result<LiteralValue, JsonError>
-    ensures ok { IfOk result (λ literal. number_text_of (view value.now) ≡ Some (literal_op literal)) }
-    ensures err { IfErr result (IsErrorOf a_number_text (view value.now)) }
+    ensures { IsReading number_text_of a_number_text (view value.now) result literal_op }
 {
     match value.as_str() {
         None => Err(JsonError::shape(alloc, value)),
@@ -94,8 +91,7 @@ fn starts_with_plus(bytes: &[u8]) -> bool
 // A number of a type: `[type, number]`.
 #[inline(never)]
 fn read_typed(alloc: Global, value: &Value) -> Result<LiteralValue, JsonError>
-    ensures ok { IfOk result (λ literal. typed_of (view value.now) ≡ Some (literal_op literal)) }
-    ensures err { IfErr result (IsErrorOf a_typed_literal (view value.now)) }
+    ensures { IsReading typed_of a_typed_literal (view value.now) result literal_op }
 {
     match two_items(value) {
         None => Err(JsonError::shape(alloc, value)),
@@ -112,8 +108,7 @@ fn read_typed(alloc: Global, value: &Value) -> Result<LiteralValue, JsonError>
 // A type of integers or of time.
 #[tactic(auto, using(crate::proofs::LiteralLemmas::counted_error))]
 fn read_counted(alloc: Global, value: &Value) -> Result<DataType, JsonError>
-    ensures ok { IfOk result (λ dtype. counted_of (view value.now) ≡ Some (ty dtype)) }
-    ensures err { IfErr result (IsErrorOf a_counted_type (view value.now)) }
+    ensures { IsReading counted_of a_counted_type (view value.now) result ty }
 {
     match read_type(alloc, value) {
         Err(error) => Err(error),
@@ -128,8 +123,7 @@ fn read_counted(alloc: Global, value: &Value) -> Result<DataType, JsonError>
 
 // A whole number that the type has.
 fn read_number_of(alloc: Global, dtype: &DataType, value: &Value) -> Result<LiteralValue, JsonError>
-    ensures ok { IfOk result (λ literal. number_of (ty dtype.now) (view value.now) ≡ Some (literal_op literal)) }
-    ensures err { IfErr result (IsErrorOf (a_number_of (ty dtype.now)) (view value.now)) }
+    ensures { IsReading (number_of (ty dtype.now)) (a_number_of (ty dtype.now)) (view value.now) result literal_op }
 {
     match whole_number(value) {
         None => Err(JsonError::shape(alloc, value)),

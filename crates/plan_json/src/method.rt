@@ -1,27 +1,21 @@
 //! Methods of aggregates, by their names.
-ghost use Rattle.std.specs.Prelude.{◌≡◌, Some, IfOk, IfErr};
+ghost use Rattle.std.specs.Prelude.{◌≡◌};
 ghost use Rattle.serde_json.specs.View.{view};
-ghost use Rattle.plan_json.specs.Errors.{IsErrorOf};
 ghost use Rattle.plan_json.specs.Faults.{a_method};
 ghost use Rattle.plan_json.specs.Leaves.{count_named, method_named, method_of, value_named};
+ghost use Rattle.plan_json.specs.Readers.{IsReading};
 
 use super::error::JsonError;
+use super::value::named;
 use plan_dsl::aggregate::GroupByMethod;
 use serde_json::Value;
 use std::alloc::Global;
 
 // The method of an aggregate, by its name.
 pub(crate) fn read_method(alloc: Global, value: &Value) -> Result<GroupByMethod, JsonError>
-    ensures ok { IfOk result (λ method. method_of (view value.now) ≡ Some method) }
-    ensures err { IfErr result (IsErrorOf a_method (view value.now)) }
+    ensures { IsReading method_of a_method (view value.now) result (λ method. method) }
 {
-    match value.as_str() {
-        None => Err(JsonError::shape(alloc, value)),
-        Some(name) => match method_named(name) {
-            None => Err(JsonError::shape(alloc, value)),
-            Some(method) => Ok(method),
-        },
-    }
+    named!(alloc, value, method_named)
 }
 
 // The method of that name. Few names are looked at in one function, since its proof compares each with each.

@@ -1,11 +1,12 @@
 //! Operators and modes of casts, by their names.
-ghost use Rattle.std.specs.Prelude.{◌≡◌, Some, IfOk, IfErr};
+ghost use Rattle.std.specs.Prelude.{◌≡◌};
 ghost use Rattle.serde_json.specs.View.{view};
-ghost use Rattle.plan_json.specs.Errors.{IsErrorOf};
 ghost use Rattle.plan_json.specs.Faults.{an_operator, a_mode};
 ghost use Rattle.plan_json.specs.Leaves.{arithmetic_named, comparison_named, logic_named, operator_named, operator_of, mode_named, mode_of};
+ghost use Rattle.plan_json.specs.Readers.{IsReading};
 
 use super::error::JsonError;
+use super::value::named;
 use plan_dsl::operator::Operator;
 use plan_types::dtype::CastOptions;
 use serde_json::Value;
@@ -13,16 +14,9 @@ use std::alloc::Global;
 
 // An operator, by its name.
 pub(crate) fn read_operator(alloc: Global, value: &Value) -> Result<Operator, JsonError>
-    ensures ok { IfOk result (λ operator. operator_of (view value.now) ≡ Some operator) }
-    ensures err { IfErr result (IsErrorOf an_operator (view value.now)) }
+    ensures { IsReading operator_of an_operator (view value.now) result (λ operator. operator) }
 {
-    match value.as_str() {
-        None => Err(JsonError::shape(alloc, value)),
-        Some(name) => match operator_named(name) {
-            None => Err(JsonError::shape(alloc, value)),
-            Some(operator) => Ok(operator),
-        },
-    }
+    named!(alloc, value, operator_named)
 }
 
 // The operator of that name. Few names are looked at in one function, since its proof compares each with each.
@@ -86,16 +80,9 @@ fn logic_named(name: &str) -> Option<Operator>
 
 // What a cast does with a value that has no place in its target, by its name.
 pub(crate) fn read_mode(alloc: Global, value: &Value) -> Result<CastOptions, JsonError>
-    ensures ok { IfOk result (λ mode. mode_of (view value.now) ≡ Some mode) }
-    ensures err { IfErr result (IsErrorOf a_mode (view value.now)) }
+    ensures { IsReading mode_of a_mode (view value.now) result (λ mode. mode) }
 {
-    match value.as_str() {
-        None => Err(JsonError::shape(alloc, value)),
-        Some(name) => match mode_named(name) {
-            None => Err(JsonError::shape(alloc, value)),
-            Some(mode) => Ok(mode),
-        },
-    }
+    named!(alloc, value, mode_named)
 }
 
 // The mode of that name.

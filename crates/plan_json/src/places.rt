@@ -6,10 +6,11 @@ ghost use Rattle.plan_dsl.specs.Expressions.{selector_trees, tree_of, trees_of};
 ghost use Rattle.plan_types.specs.Schemas.{columns, names_of};
 ghost use Rattle.plan_json.specs.Arguments.{arg_view, args_view, items_seen};
 ghost use Rattle.plan_json.specs.Errors.{IsErrorOf, IsListErrorOf};
-ghost use Rattle.plan_json.specs.Faults.{asked_form, a_scan, items_of, keyed_form, leaf_form, order_form, places_form, nothing_form, optional_form, small_form};
+ghost use Rattle.plan_json.specs.Faults.{a_scan, items_of, leaf_form, places_form, nothing_form, small_form};
 ghost use Rattle.plan_json.specs.Forms.{AllFit, a_form, asked_in, asks, bin_key, expression, expression_read, leaf, listed_leaf, chosen_read, many, many_read, optional, order, place_view, places_view, reads_of, says, selector, selector_read, nothing_read};
 ghost use Rattle.plan_json.specs.Leaves.{table_at, text_of};
 ghost use Rattle.plan_json.specs.Queries.{IsItem, leaf_of, list_as, places_as, read_as, these_as, nothing_of, small_of};
+ghost use Rattle.plan_json.specs.Readers.{IsReadAs, IsReadBy, IsReading};
 ghost use Rattle.plan_json.specs.Tables.{Declared, declared};
 ghost use Rattle.plan_json.specs.declared.forms.Key.TheVariants as keys;
 
@@ -31,7 +32,7 @@ use super::operator::{read_mode, read_operator};
 use super::plan::assemble_plan;
 use super::selector::assemble_selector;
 use super::tables::Tables;
-use super::value::{items, only_member, three_items};
+use super::value::{items, keyed, only_member, three_items};
 use plan_dsl::expr::{Expr, Exprs};
 use plan_dsl::selector::Selectors;
 use plan_types::schema::Schema;
@@ -70,28 +71,15 @@ pub(crate) fn read_form(
     kind: Kind,
     value: &Value,
 ) -> Result<Arg, JsonError>
-    ensures ok { IfOk result (λ arg. read_as (declared tables.now) (a_form kind) (view value.now)
-        ≡ Some (arg_view arg)) }
-    ensures err { IfErr result (IsErrorOf (keyed_form (names_of (declared tables.now)) kind) (view value.now)) }
+    ensures { IsReadAs (declared tables.now) (a_form kind) (view value.now) result arg_view }
 {
-    match only_member(value) {
-        None => Err(JsonError::shape(alloc, value)),
-        Some((word, inner)) => match find_key(kind, word) {
-            None => Err(JsonError::shape(alloc, value)),
-            Some((word, key)) => match read_keyed(alloc, tables, key, inner) {
-                Err(error) => Err(error.below(alloc, Step::Key(word))),
-                Ok(arg) => Ok(arg),
-            },
-        },
-    }
+    keyed!(alloc, value, word => find_key(kind, word), (key, inner) => read_keyed(alloc, tables, key, inner))
 }
 
 // What a key says of its value.
 #[cycle(forms)]
 fn read_keyed(alloc: Global, tables: &Tables, key: Key, value: &Value) -> Result<Arg, JsonError>
-    ensures ok { IfOk result (λ arg. option_and_then (says key) (places_as (declared tables.now) (asks key) (view value.now))
-        ≡ Some (arg_view arg)) }
-    ensures err { IfErr result (IsErrorOf (places_form (names_of (declared tables.now)) (asks key)) (view value.now)) }
+    ensures { IsReadBy (declared tables.now) key (view value.now) result arg_view }
 {
     match key {
         Key::Expression(key) => plain!(read_boxed_of(alloc, tables, key, value), Arg::Expression),
@@ -111,20 +99,9 @@ fn read_keyed(alloc: Global, tables: &Tables, key: Key, value: &Value) -> Result
 #[cycle(forms)]
 #[tactic(auto, using(crate::proofs::Lemmas::less_deep))]
 fn read_expression(alloc: Global, tables: &Tables, value: &Value) -> Result<Expr, JsonError>
-    ensures ok { IfOk result (λ expr. read_as (declared tables.now) expression (view value.now)
-        ≡ Some (expression_read (tree_of expr))) }
-    ensures err { IfErr result (IsErrorOf (asked_form (names_of (declared tables.now)) expression) (view value.now)) }
+    ensures { IsReadAs (declared tables.now) expression (view value.now) result (λ expr. expression_read (tree_of expr)) }
 {
-    match only_member(value) {
-        None => Err(JsonError::shape(alloc, value)),
-        Some((word, inner)) => match find_expression(word) {
-            None => Err(JsonError::shape(alloc, value)),
-            Some((word, key)) => match read_expression_of(alloc, tables, key, inner) {
-                Err(error) => Err(error.below(alloc, Step::Key(word))),
-                Ok(expr) => Ok(expr),
-            },
-        },
-    }
+    keyed!(alloc, value, word => find_expression(word), (key, inner) => read_expression_of(alloc, tables, key, inner))
 }
 
 // What a key of expressions says of its value.
@@ -135,10 +112,7 @@ fn read_expression_of(
     key: ExpressionKey,
     value: &Value,
 ) -> Result<Expr, JsonError>
-    ensures ok { IfOk result (λ expr. option_and_then (says (keys.Expression key))
-        (places_as (declared tables.now) (asks (keys.Expression key)) (view value.now)) ≡ Some (expression_read (tree_of expr))) }
-    ensures err { IfErr result (IsErrorOf (places_form (names_of (declared tables.now)) (asks (keys.Expression key)))
-        (view value.now)) }
+    ensures { IsReadBy (declared tables.now) (keys.Expression key) (view value.now) result (λ expr. expression_read (tree_of expr)) }
 {
     match key {
         // Most forms are columns, whose name goes through no arguments.
@@ -161,20 +135,9 @@ fn read_expression_of(
 #[cycle(forms)]
 #[tactic(auto, using(crate::proofs::Lemmas::less_deep))]
 fn read_boxed(alloc: Global, tables: &Tables, value: &Value) -> Result<Box<Expr>, JsonError>
-    ensures ok { IfOk result (λ expr. read_as (declared tables.now) expression (view value.now)
-        ≡ Some (expression_read (tree_of expr.value))) }
-    ensures err { IfErr result (IsErrorOf (asked_form (names_of (declared tables.now)) expression) (view value.now)) }
+    ensures { IsReadAs (declared tables.now) expression (view value.now) result (λ expr. expression_read (tree_of expr.value)) }
 {
-    match only_member(value) {
-        None => Err(JsonError::shape(alloc, value)),
-        Some((word, inner)) => match find_expression(word) {
-            None => Err(JsonError::shape(alloc, value)),
-            Some((word, key)) => match read_boxed_of(alloc, tables, key, inner) {
-                Err(error) => Err(error.below(alloc, Step::Key(word))),
-                Ok(expr) => Ok(expr),
-            },
-        },
-    }
+    keyed!(alloc, value, word => find_expression(word), (key, inner) => read_boxed_of(alloc, tables, key, inner))
 }
 
 // What a key of expressions says of its value, in a box. A column is put there at once.
@@ -186,10 +149,7 @@ fn read_boxed_of(
     key: ExpressionKey,
     value: &Value,
 ) -> Result<Box<Expr>, JsonError>
-    ensures ok { IfOk result (λ expr. option_and_then (says (keys.Expression key))
-        (places_as (declared tables.now) (asks (keys.Expression key)) (view value.now)) ≡ Some (expression_read (tree_of expr.value))) }
-    ensures err { IfErr result (IsErrorOf (places_form (names_of (declared tables.now)) (asks (keys.Expression key)))
-        (view value.now)) }
+    ensures { IsReadBy (declared tables.now) (keys.Expression key) (view value.now) result (λ expr. expression_read (tree_of expr.value)) }
 {
     match key {
         ExpressionKey::Col => match read_text(alloc, value) {
@@ -213,9 +173,7 @@ fn read_boxed_of(
 #[cycle(forms)]
 #[tactic(auto, using(crate::proofs::BinLemmas::less_deep))]
 fn read_bin(alloc: Global, tables: &Tables, value: &Value) -> Result<Expr, JsonError>
-    ensures ok { IfOk result (λ expr. option_and_then (says bin_key) (places_as (declared tables.now) (asks bin_key) (view value.now))
-        ≡ Some (expression_read (tree_of expr))) }
-    ensures err { IfErr result (IsErrorOf (places_form (names_of (declared tables.now)) (asks bin_key)) (view value.now)) }
+    ensures { IsReadBy (declared tables.now) bin_key (view value.now) result (λ expr. expression_read (tree_of expr)) }
 {
     let Some((op, left, right)) = three_items(value) else {
         return Err(JsonError::shape(alloc, value));
@@ -246,10 +204,7 @@ fn read_places(
     value: &Value,
 ) -> Result<Args, JsonError>
     requires { length (asked_in (places_view places)) ≤ 4 }
-    ensures ok { IfOk result (λ args. places_as (declared tables.now) (places_view places) (view value.now)
-        ≡ Some (args_view args)) }
-    ensures err { IfErr result (IsErrorOf (places_form (names_of (declared tables.now)) (places_view places))
-        (view value.now)) }
+    ensures { IsReading (places_as (declared tables.now) (places_view places)) (places_form (names_of (declared tables.now)) (places_view places)) (view value.now) result args_view }
 {
     match places {
         Places::One(place) => match read_place(alloc, tables, place, value) {
@@ -273,10 +228,7 @@ fn read_listed(
     value: &Value,
 ) -> Result<Items, JsonError>
     requires { length places.now ≤ 4 }
-    ensures ok { IfOk result (λ items. list_as (declared tables.now) (map place_view places.now) (view value.now)
-        ≡ Some (items_seen items)) }
-    ensures err { IfErr result (IsErrorOf (items_of (names_of (declared tables.now)) (map place_view places.now))
-        (view value.now)) }
+    ensures { IsReading (list_as (declared tables.now) (map place_view places.now)) (items_of (names_of (declared tables.now)) (map place_view places.now)) (view value.now) result items_seen }
 {
     match items(value) {
         None => Err(JsonError::shape(alloc, value)),
@@ -373,10 +325,7 @@ fn read_item(
 // What is at one place.
 #[cycle(forms)]
 fn read_place(alloc: Global, tables: &Tables, place: Place, value: &Value) -> Result<Arg, JsonError>
-    ensures ok { IfOk result (λ arg. read_as (declared tables.now) (place_view place) (view value.now)
-        ≡ Some (arg_view arg)) }
-    ensures err { IfErr result (IsErrorOf (asked_form (names_of (declared tables.now)) (place_view place))
-        (view value.now)) }
+    ensures { IsReadAs (declared tables.now) (place_view place) (view value.now) result arg_view }
 {
     match place {
         Place::Form(kind) => match read_form(alloc, tables, kind, value) {
@@ -430,8 +379,7 @@ fn read_leaves(alloc: Global, which: ListLeaf, value: &Value) -> Result<Arg, Jso
 #[inline(never)]
 #[tactic(auto, using(crate::proofs::FormLemmas::order_listed, crate::proofs::FormLemmas::order_error))]
 fn read_order(alloc: Global, tables: &Tables, value: &Value) -> Result<Arg, JsonError>
-    ensures ok { IfOk result (λ arg. read_as (declared tables.now) order (view value.now) ≡ Some (arg_view arg)) }
-    ensures err { IfErr result (IsErrorOf (order_form (names_of (declared tables.now))) (view value.now)) }
+    ensures { IsReadAs (declared tables.now) order (view value.now) result arg_view }
 {
     match value.as_null() {
         Some(()) => Ok(Arg::Order(None)),
@@ -447,8 +395,7 @@ fn read_order(alloc: Global, tables: &Tables, value: &Value) -> Result<Arg, Json
 #[inline(never)]
 #[tactic(auto, using(crate::proofs::FormLemmas::optional_listed, crate::proofs::FormLemmas::optional_error))]
 fn read_optional(alloc: Global, tables: &Tables, value: &Value) -> Result<Arg, JsonError>
-    ensures ok { IfOk result (λ arg. read_as (declared tables.now) optional (view value.now) ≡ Some (arg_view arg)) }
-    ensures err { IfErr result (IsErrorOf (optional_form (names_of (declared tables.now))) (view value.now)) }
+    ensures { IsReadAs (declared tables.now) optional (view value.now) result arg_view }
 {
     match value.as_null() {
         Some(()) => Ok(Arg::Nothing),
@@ -467,9 +414,7 @@ fn read_optional(alloc: Global, tables: &Tables, value: &Value) -> Result<Arg, J
 #[inline(never)]
 #[tactic(auto, using(crate::proofs::Lemmas::less_deep))]
 fn read_expressions(alloc: Global, tables: &Tables, value: &Value) -> Result<Exprs, JsonError>
-    ensures ok { IfOk result (λ exprs. read_as (declared tables.now) (many expression) (view value.now)
-        ≡ Some (many_read (reads_of (map expression_read (trees_of exprs))))) }
-    ensures err { IfErr result (IsErrorOf (asked_form (names_of (declared tables.now)) (many expression)) (view value.now)) }
+    ensures { IsReadAs (declared tables.now) (many expression) (view value.now) result (λ exprs. many_read (reads_of (map expression_read (trees_of exprs)))) }
 {
     match items(value) {
         None => Err(JsonError::shape(alloc, value)),
@@ -491,9 +436,7 @@ fn read_expressions(alloc: Global, tables: &Tables, value: &Value) -> Result<Exp
 #[inline(never)]
 #[tactic(auto, using(crate::proofs::Lemmas::less_deep))]
 fn read_selectors(alloc: Global, tables: &Tables, value: &Value) -> Result<Selectors, JsonError>
-    ensures ok { IfOk result (λ selectors. read_as (declared tables.now) (many selector) (view value.now)
-        ≡ Some (chosen_read (reads_of (map selector_read (selector_trees selectors))))) }
-    ensures err { IfErr result (IsErrorOf (asked_form (names_of (declared tables.now)) (many selector)) (view value.now)) }
+    ensures { IsReadAs (declared tables.now) (many selector) (view value.now) result (λ selectors. chosen_read (reads_of (map selector_read (selector_trees selectors)))) }
 {
     match items(value) {
         None => Err(JsonError::shape(alloc, value)),
@@ -512,8 +455,7 @@ fn read_selectors(alloc: Global, tables: &Tables, value: &Value) -> Result<Selec
 
 // What has no forms.
 fn read_leaf(alloc: Global, tables: &Tables, which: Leaf, value: &Value) -> Result<Arg, JsonError>
-    ensures ok { IfOk result (λ arg. leaf_of (declared tables.now) which (view value.now) ≡ Some (arg_view arg)) }
-    ensures err { IfErr result (IsErrorOf (leaf_form (names_of (declared tables.now)) which) (view value.now)) }
+    ensures { IsReading (leaf_of (declared tables.now) which) (leaf_form (names_of (declared tables.now)) which) (view value.now) result arg_view }
 {
     match which {
         Leaf::Name => boxed!(alloc, read_text(alloc, value), Arg::Name),
@@ -535,8 +477,7 @@ fn read_leaf(alloc: Global, tables: &Tables, which: Leaf, value: &Value) -> Resu
 
 // What has no forms and needs no box.
 fn read_small(alloc: Global, which: SmallLeaf, value: &Value) -> Result<Arg, JsonError>
-    ensures ok { IfOk result (λ arg. small_of which (view value.now) ≡ Some (arg_view arg)) }
-    ensures err { IfErr result (IsErrorOf (small_form which) (view value.now)) }
+    ensures { IsReading (small_of which) (small_form which) (view value.now) result arg_view }
 {
     match which {
         SmallLeaf::Operator => plain!(read_operator(alloc, value), Arg::Operator),
@@ -553,8 +494,7 @@ fn read_small(alloc: Global, which: SmallLeaf, value: &Value) -> Result<Arg, Jso
 
 // Null.
 fn read_nothing(alloc: Global, value: &Value) -> Result<(), JsonError>
-    ensures ok { IfOk result (λ _. nothing_of (view value.now) ≡ Some nothing_read) }
-    ensures err { IfErr result (IsErrorOf nothing_form (view value.now)) }
+    ensures { IsReading nothing_of nothing_form (view value.now) result (λ _. nothing_read) }
 {
     match value.as_null() {
         None => Err(JsonError::shape(alloc, value)),
@@ -569,9 +509,7 @@ fn read_table_name(
     tables: &Tables,
     value: &Value,
 ) -> Result<(u32, Box<Schema>), JsonError>
-    ensures ok { IfOk result (λ table. option_and_then (table_at (declared tables.now)) (text_of (view value.now))
-        ≡ Some (table.0, columns table.1.value)) }
-    ensures err { IfErr result (IsErrorOf (a_scan (names_of (declared tables.now))) (view value.now)) }
+    ensures { IsReading (λ d. option_and_then (table_at (declared tables.now)) (text_of d)) (a_scan (names_of (declared tables.now))) (view value.now) result (λ table. (table.0, columns table.1.value)) }
 {
     match read_text(alloc, value) {
         Err(error) => Err(error),

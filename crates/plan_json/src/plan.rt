@@ -1,11 +1,10 @@
 //! Plans, from what was read of a key's value: one function for each key.
 #![tactic(auto, using(crate::proofs::FormLemmas::expressions_read))]
 
-ghost use Rattle.std.specs.Prelude.{◌≡◌, [], ◌∷◌, Some, false, IfOk, IfErr};
-ghost use Rattle.plan_dsl.specs.Plans.{plan_tree};
+ghost use Rattle.std.specs.Prelude.{◌≡◌, IfOk, IfErr};
 ghost use Rattle.plan_json.specs.Arguments.{args_view};
-ghost use Rattle.plan_json.specs.Forms.{AllFit, asked_in, plan_asks, plan_says};
-ghost use Rattle.plan_json.specs.Queries.{has_flags};
+ghost use Rattle.plan_json.specs.Forms.{AllFit, asked_in, plan_asks};
+ghost use Rattle.plan_json.specs.Readers.{IsPlanOf};
 ghost use Rattle.plan_json.specs.declared.forms.PlanKey.TheVariants as by;
 
 use super::arguments::{
@@ -22,8 +21,7 @@ use std::alloc::Global;
 // The plan of that key.
 pub(crate) fn assemble_plan(alloc: Global, key: PlanKey, args: Args) -> Result<DslPlan, JsonError>
     requires { AllFit (asked_in (plan_asks key)) (args_view args) }
-    ensures says { IfOk result (λ built. plan_says key (args_view args) ≡ Some (plan_tree built)) }
-    ensures flags { IfOk result (λ built. has_flags built ≡ false) }
+    ensures ok { IfOk result (IsPlanOf key (args_view args)) }
     ensures err { IfErr result (λ error. error ≡ JsonError.NoMemory) }
 {
     match key {
@@ -50,8 +48,7 @@ pub(crate) fn assemble_plan(alloc: Global, key: PlanKey, args: Args) -> Result<D
 
 fn filter(args: Args) -> DslPlan
     requires { AllFit (asked_in (plan_asks by.Filter)) (args_view args) }
-    ensures says { plan_says by.Filter (args_view args) ≡ Some (plan_tree result) }
-    ensures flags { has_flags result ≡ false }
+    ensures { IsPlanOf by.Filter (args_view args) result }
 {
     let (input, predicate) = two(args);
     DslPlan::Filter {
@@ -62,8 +59,7 @@ fn filter(args: Args) -> DslPlan
 
 fn select(args: Args) -> DslPlan
     requires { AllFit (asked_in (plan_asks by.Select)) (args_view args) }
-    ensures says { plan_says by.Select (args_view args) ≡ Some (plan_tree result) }
-    ensures flags { has_flags result ≡ false }
+    ensures { IsPlanOf by.Select (args_view args) result }
 {
     let (input, outputs) = two(args);
     DslPlan::Select {
@@ -77,8 +73,7 @@ fn select(args: Args) -> DslPlan
 
 fn group_by(args: Args) -> DslPlan
     requires { AllFit (asked_in (plan_asks by.GroupBy)) (args_view args) }
-    ensures says { plan_says by.GroupBy (args_view args) ≡ Some (plan_tree result) }
-    ensures flags { has_flags result ≡ false }
+    ensures { IsPlanOf by.GroupBy (args_view args) result }
 {
     let (input, keys, aggs) = three(args);
     DslPlan::GroupBy {
@@ -91,8 +86,7 @@ fn group_by(args: Args) -> DslPlan
 
 fn with_columns(args: Args) -> DslPlan
     requires { AllFit (asked_in (plan_asks by.WithColumns)) (args_view args) }
-    ensures says { plan_says by.WithColumns (args_view args) ≡ Some (plan_tree result) }
-    ensures flags { has_flags result ≡ false }
+    ensures { IsPlanOf by.WithColumns (args_view args) result }
 {
     let (input, outputs) = two(args);
     DslPlan::HStack {
@@ -107,8 +101,7 @@ fn with_columns(args: Args) -> DslPlan
 #[tactic(auto, using(crate::proofs::FormLemmas::selectors_read))]
 fn drop_columns(args: Args) -> DslPlan
     requires { AllFit (asked_in (plan_asks by.Drop)) (args_view args) }
-    ensures says { plan_says by.Drop (args_view args) ≡ Some (plan_tree result) }
-    ensures flags { has_flags result ≡ false }
+    ensures { IsPlanOf by.Drop (args_view args) result }
 {
     let (input, to_drop, strict) = three(args);
     DslPlan::MapFunction {
@@ -124,8 +117,7 @@ fn drop_columns(args: Args) -> DslPlan
 #[tactic(auto, using(crate::proofs::FormLemmas::expressions_read, crate::proofs::FormLemmas::same_flags))]
 fn drop_nulls(alloc: Global, args: Args) -> Result<DslPlan, JsonError>
     requires { AllFit (asked_in (plan_asks by.DropNulls)) (args_view args) }
-    ensures says { IfOk result (λ built. plan_says by.DropNulls (args_view args) ≡ Some (plan_tree built)) }
-    ensures flags { IfOk result (λ built. has_flags built ≡ false) }
+    ensures ok { IfOk result (IsPlanOf by.DropNulls (args_view args)) }
     ensures err { IfErr result (λ error. error ≡ JsonError.NoMemory) }
 {
     let (input, subset) = two(args);
@@ -140,8 +132,7 @@ fn drop_nulls(alloc: Global, args: Args) -> Result<DslPlan, JsonError>
 #[tactic(auto, using(crate::proofs::FormLemmas::unset_flags))]
 fn fill_null(alloc: Global, args: Args) -> Result<DslPlan, JsonError>
     requires { AllFit (asked_in (plan_asks by.FillNull)) (args_view args) }
-    ensures says { IfOk result (λ built. plan_says by.FillNull (args_view args) ≡ Some (plan_tree built)) }
-    ensures flags { IfOk result (λ built. has_flags built ≡ false) }
+    ensures ok { IfOk result (IsPlanOf by.FillNull (args_view args)) }
     ensures err { IfErr result (λ error. error ≡ JsonError.NoMemory) }
 {
     let (input, value) = two(args);

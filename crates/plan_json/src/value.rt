@@ -107,3 +107,36 @@ pub(crate) fn three_items(value: &Value) -> Option<(&Value, &Value, &Value)>
         }
     }
 }
+
+// What the text names, of what has a name.
+macro_rules! named {
+    ($alloc:ident, $value:ident, $named:ident) => {
+        match $value.as_str() {
+            None => Err(JsonError::shape($alloc, $value)),
+            Some(name) => match $named(name) {
+                None => Err(JsonError::shape($alloc, $value)),
+                Some(named) => Ok(named),
+            },
+        }
+    };
+}
+
+pub(crate) use named;
+
+// What the row of an object's only key says of the value there.
+macro_rules! keyed {
+    ($alloc:ident, $value:ident, $word:ident => $row:expr, ($key:ident, $inner:ident) => $read:expr) => {
+        match only_member($value) {
+            None => Err(JsonError::shape($alloc, $value)),
+            Some(($word, $inner)) => match $row {
+                None => Err(JsonError::shape($alloc, $value)),
+                Some((word, $key)) => match $read {
+                    Err(error) => Err(error.below($alloc, Step::Key(word))),
+                    Ok(read) => Ok(read),
+                },
+            },
+        }
+    };
+}
+
+pub(crate) use keyed;

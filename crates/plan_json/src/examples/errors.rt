@@ -1,23 +1,33 @@
 //! Worked examples of errors, of their paths and pointers, and of the query that a `Query` is.
 #![tactic(auto, unfolding(crate::proofs::OnLiterals::values_on_literals))]
 
-ghost use Rattle.std.specs.Prelude.{◌≡◌, ℕ, [], ◌∷◌, Option, None, false, true, String, codes, string_bytes};
+ghost use Rattle.std.specs.Prelude.{◌≡◌, ℕ, [], ◌∷◌, Bool, Err, Ok, Option, None, false, true, String, codes, string_bytes};
 ghost use Rattle.std.specs.Global.{Global};
 ghost use Rattle.plan_types.specs.declared.schema.Schema.{Schema};
+ghost use Rattle.plan_dsl.specs.Ops.{LenOp};
 ghost use Rattle.plan_dsl.specs.Plans.{empty_table, plan_tree};
+ghost use Rattle.plan_dsl.specs.Sources.{Plain};
+ghost use Rattle.plan_dsl.specs.Trees.{no_more, node};
 ghost use Rattle.plan_dsl.specs.declared.expr.Expr.{Expr};
 ghost use Rattle.plan_dsl.specs.declared.plan.DslPlan.TheVariants.{DataFrameScan, Filter', GroupBy', HStack', Select'};
 ghost use Rattle.plan_dsl.specs.declared.expr.Exprs.{Exprs};
 ghost use Rattle.plan_dsl.specs.declared.plan.ProjectionOptions.{ProjectionOptions};
-ghost use Rattle.serde_json.specs.Data.{null};
+ghost use Rattle.plan_types.specs.Schemas.{columns};
+ghost use Rattle.serde_json.specs.Data.{boolean, null};
+ghost use Rattle.serde_json.specs.Find.{as_bool};
 ghost use Rattle.plan_json.specs.Errors.{IsBelow, IsErrorOf, IsListErrorOf, IsOwn, IsPlain, escaped, pointer_text, step_of};
-ghost use Rattle.plan_json.specs.Faults.{BadFloat, BadName, BadShape, a_column, a_text, key, number};
+ghost use Rattle.plan_json.specs.Faults.{BadFloat, BadName, BadShape, a_column, a_text, flag_form, key, number};
+ghost use Rattle.plan_json.specs.Forms.{columns_read, expression_read, flag_read, leaf};
 ghost use Rattle.plan_json.specs.Queries.{has_flags, query_model};
+ghost use Rattle.plan_json.specs.Readers.{IsPlanOf, IsReadAs, IsReadBy, IsReading};
 ghost use Rattle.plan_json.specs.Samples.{Gives, list, query, to, word};
 ghost use Rattle.plan_json.specs.Tables.{declared};
 ghost use Rattle.plan_json.specs.declared.error.JsonError.{JsonError};
 ghost use Rattle.plan_json.specs.declared.error.JsonError.TheVariants.{NotJson, Shape, Float, Name, NoMemory};
 ghost use Rattle.plan_json.specs.declared.error.Step.TheVariants.{Item, Key};
+ghost use Rattle.plan_json.specs.declared.forms.ExpressionKey.TheVariants as of;
+ghost use Rattle.plan_json.specs.declared.forms.Key.TheVariants as keys;
+ghost use Rattle.plan_json.specs.declared.forms.PlanKey.TheVariants as by;
 ghost use Rattle.plan_json.specs.declared.forms.Leaf.TheVariants as leaves;
 ghost use Rattle.plan_json.specs.declared.forms.SmallLeaf.TheVariants as smalls;
 ghost use Rattle.plan_json.specs.declared.read.Query.{Query};
@@ -46,6 +56,16 @@ pub fn error_examples()
     ensures keys { Gives (λ name. escaped (codes name)) (("columns", codes "columns") ∷ ("a/b", codes "a~1b") ∷ ("m~n", codes "m~0n") ∷ ("~1/~0", codes "~01~1~00") ∷ []) }
     ensures paths { Gives pointer_text (
         ([], []) ∷ (to "tables" (number 0 ∷ to "columns" (number 12 ∷ [])), codes "/tables/0/columns/12") ∷ (to "~/" (key [] ∷ to "0" []), codes "/~0~1//0") ∷ []) }
+{}
+
+/// A reader answers what the value means, or an error of its form. A plan is what its key says of what was read, without options that are set.
+pub fn reader_examples()
+    ensures read { IsReading as_bool flag_form (boolean true) (Ok true) (λ flag. flag) × ¬ (IsReading as_bool flag_form (boolean true) (Ok false) (λ flag. flag)) }
+    ensures refused { IsReading as_bool flag_form (boolean true) (Err NoMemory) (λ (flag : Bool). flag) × ¬ (IsReading as_bool flag_form (boolean true) (Err NotJson) (λ (flag : Bool). flag)) }
+    ensures asked { let a_flag = leaf (leaves.Small smalls.Flag) in IsReadAs [] a_flag (boolean true) (Ok true) (λ flag. flag_read flag) × ¬ (IsReadAs [] a_flag null (Ok true) (λ flag. flag_read flag)) }
+    ensures keyed { let rows = expression_read (node (Plain LenOp) no_more) in IsReadBy [] (keys.Expression of.Len) null (Ok rows) (λ r. r) × ¬ (IsReadBy [] (keys.Expression of.Len) (boolean true) (Ok rows) (λ r. r)) }
+    ensures plan { (schema : Schema) → columns schema ≡ [] → IsPlanOf by.Empty (columns_read [] ∷ []) (DataFrameScan None schema) }
+    ensures other { (expr : Exprs) (p : _) (schema : Schema) (found : _) → ¬ (IsPlanOf by.Select found (Select' expr p (DataFrameScan None schema) (record { duplicate_check = true }))) }
 {}
 
 /// A query shows its tables in order, and the tree of its plan. A plan has flags where some select, hstack or group-by of it has its option set.

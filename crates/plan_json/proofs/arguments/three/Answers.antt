@@ -1,15 +1,14 @@
 use Rattle.plan_json.proofs.Names.{[], subst, ◌∷◌, AllFit}
-use Rattle.plan_json.proofs.FitLemmas.{listed_shows}
 use Rattle.plan_json.proofs.arguments.three.Goals as goal
 
 pub returns-clause-all : goal.returns-clause-all
-returns-clause-all c = listed_shows 3 c.args.args c.in-Listed.field-0 c.in-Listed.is c.requires
+returns-clause-all c = c.parts-first.ensures 3 c.requires
 
 pub returns-clause-first : goal.returns-clause-first
-returns-clause-first c p q r fit = (subst (AllFit (p ∷ q ∷ r ∷ [])) (listed_shows 3 c.args.args c.in-Listed.field-0 c.in-Listed.is c.requires) fit).each.0
+returns-clause-first c p q r fit = (subst (AllFit (p ∷ q ∷ r ∷ [])) (c.parts-first.ensures 3 c.requires) fit).each.0
 
 pub returns-clause-second : goal.returns-clause-second
-returns-clause-second c p q r fit = (subst (AllFit (p ∷ q ∷ r ∷ [])) (listed_shows 3 c.args.args c.in-Listed.field-0 c.in-Listed.is c.requires) fit).each.1.0
+returns-clause-second c p q r fit = (subst (AllFit (p ∷ q ∷ r ∷ [])) (c.parts-first.ensures 3 c.requires) fit).each.1.0
 
 pub returns-clause-third : goal.returns-clause-third
-returns-clause-third c p q r fit = (subst (AllFit (p ∷ q ∷ r ∷ [])) (listed_shows 3 c.args.args c.in-Listed.field-0 c.in-Listed.is c.requires) fit).each.1.1.0
+returns-clause-third c p q r fit = (subst (AllFit (p ∷ q ∷ r ∷ [])) (c.parts-first.ensures 3 c.requires) fit).each.1.1.0

@@ -1,14 +1,14 @@
-use Rattle.plan_json.proofs.Names.{List, Some, ap, arith, map, option_map, refl, ℕ, subst, sym, ◌<◌, ◌∙◌, asked_form, list_of, places_form, all_of, items_view, view, names_of, array, declared, expression, expression_read, place_view, read_as, IsErrorOf, map-append, tree_of}
+use Rattle.plan_json.proofs.Names.{Some, ap, arith, map, refl, subst, sym, ◌<◌, ◌∙◌, asked_form, list_of, places_form, all_of, items_view, view, names_of, array, declared, expression, expression_read, place_view, read_as, IsErrorOf, map-append, tree_of}
 use Rattle.plan_dsl.specs.Expressions.{selector_tree}
 use Rattle.plan_json.specs.Forms.{selector, selector_read}
 use Rattle.plan_json.proofs.Lemmas.{IsErrorOf-own, item_in, form_read, key_part, item_part_at, other_count, each_read, all_of-more, all_taken, depth-item}
 use Rattle.plan_json.specs.Forms.{AllFit, asked_in}
 use Rattle.plan_json.specs.Arguments.{args_view, items_seen}
-use Rattle.plan_json.specs.declared.forms.ExpressionKey.{ExpressionKey}
 use Rattle.plan_json.specs.declared.forms.Key.TheVariants as keys
 use Rattle.plan_json.specs.declared.forms.Kind.TheVariants as kinds
 use Rattle.plan_json.proofs.FitLemmas.{form_fits, list_fits, places_fit}
 use Rattle.plan_json.proofs.BinLemmas.{bin_read, depth-right, left_part, op_part, right_part}
+use Rattle.plan_json.proofs.ReaderLemmas.{read, told}
 use Rattle.plan_json.proofs.places.+forms.Goals as goal
 
 -- ---- what was read fits what was asked
@@ -30,14 +30,13 @@ read_selectors-selector-requires t c = form_fits (declared c.args.tables.now) ki
 
 -- ---- a form
 
-pub read_form-returns-in-Ok-clause-ok : goal.read_form-returns-in-Ok-clause-ok
-read_form-returns-in-Ok-clause-ok t c =
-    form_read (declared c.args.tables.now) c.args.kind _ _ _ (c.in-Some-find_key.word.now, c.in-Some-find_key.key) _ c.in-Some.ensures c.in-Some-find_key.ensures.row c.in-Ok.ensures.ok
+pub read_form-returns-in-Ok : goal.read_form-returns-in-Ok
+read_form-returns-in-Ok t c =
+    read (form_read (declared c.args.tables.now) c.args.kind _ _ _ (c.in-Some-find_key.word.now, c.in-Some-find_key.key) _ c.in-Some.ensures c.in-Some-find_key.ensures.row c.in-Ok.ensures.ok)
 
-pub read_expression-returns-in-Ok-clause-ok : goal.read_expression-returns-in-Ok-clause-ok
-read_expression-returns-in-Ok-clause-ok t c =
-    form_read (declared c.args.tables.now) kinds.Expression _ _ _ (c.in-Some-find_expression.word.now, keys.Expression c.in-Some-find_expression.key) _ c.in-Some.ensures
-    (ap (option_map (λ (row : List ℕ × ExpressionKey). (row.0, keys.Expression row.1))) c.in-Some-find_expression.ensures.row) c.in-Ok.ensures.ok
+pub read_expression-returns-in-Ok : goal.read_expression-returns-in-Ok
+read_expression-returns-in-Ok t c =
+    read (form_read (declared c.args.tables.now) kinds.Expression _ _ _ (c.in-Some-find_expression.word.now, keys.Expression c.in-Some-find_expression.key) _ c.in-Some.ensures c.in-Some-find_expression.ensures.row c.in-Ok.ensures.ok)
 
 -- ---- an operator and its operands
 
@@ -45,25 +44,25 @@ pub read_bin-read_boxed-requires-2 : goal.read_bin-read_boxed-requires-2
 read_bin-read_boxed-requires-2 t c =
     let below = depth-right (view c.args.value.now) _ _ (view c.in-Some.right.now) c.in-Some.ensures in (omega (arith, c.decreases, below), tt)
 
-pub read_bin-returns-in-Err-clause-err : goal.read_bin-returns-in-Err-clause-err
-read_bin-returns-in-Err-clause-err t c = c.below.ensures _ _ _ _ (op_part (names_of (declared c.args.tables.now)) _ _ _ _ c.in-Some.ensures) c.in-Err.ensures.err
+pub read_bin-returns-in-Err : goal.read_bin-returns-in-Err
+read_bin-returns-in-Err t c = told (c.below.ensures _ _ _ _ (op_part (names_of (declared c.args.tables.now)) _ _ _ _ c.in-Some.ensures) c.in-Err.ensures.err)
 
-pub read_bin-returns-in-Err-read_boxed-clause-err : goal.read_bin-returns-in-Err-read_boxed-clause-err
-read_bin-returns-in-Err-read_boxed-clause-err t c = c.below-in-Err-read_boxed.ensures _ _ _ _ (left_part (names_of (declared c.args.tables.now)) _ _ _ _ c.in-Some.ensures) c.in-Err-read_boxed.ensures.err
+pub read_bin-returns-in-Err-read_boxed : goal.read_bin-returns-in-Err-read_boxed
+read_bin-returns-in-Err-read_boxed t c = told (c.below-in-Err-read_boxed.ensures _ _ _ _ (left_part (names_of (declared c.args.tables.now)) _ _ _ _ c.in-Some.ensures) c.in-Err-read_boxed.ensures.err)
 
-pub read_bin-returns-in-Err-read_boxed-2-clause-err : goal.read_bin-returns-in-Err-read_boxed-2-clause-err
-read_bin-returns-in-Err-read_boxed-2-clause-err t c = c.below-in-Err-read_boxed-2.ensures _ _ _ _ (right_part (names_of (declared c.args.tables.now)) _ _ _ _ c.in-Some.ensures) c.in-Err-read_boxed-2.ensures.err
+pub read_bin-returns-in-Err-read_boxed-2 : goal.read_bin-returns-in-Err-read_boxed-2
+read_bin-returns-in-Err-read_boxed-2 t c = told (c.below-in-Err-read_boxed-2.ensures _ _ _ _ (right_part (names_of (declared c.args.tables.now)) _ _ _ _ c.in-Some.ensures) c.in-Err-read_boxed-2.ensures.err)
 
-pub read_bin-returns-in-Ok-read_boxed-2-clause-ok : goal.read_bin-returns-in-Ok-read_boxed-2-clause-ok
-read_bin-returns-in-Ok-read_boxed-2-clause-ok t c =
-    bin_read (declared c.args.tables.now) _ _ _ _ c.in-Ok.op _ _ c.in-Some.ensures c.in-Ok.ensures.ok
-    c.in-Ok-read_boxed.ensures.ok c.in-Ok-read_boxed-2.ensures.ok
+pub read_bin-returns-in-Ok-read_boxed-2 : goal.read_bin-returns-in-Ok-read_boxed-2
+read_bin-returns-in-Ok-read_boxed-2 t c =
+    read (bin_read (declared c.args.tables.now) _ _ _ _ c.in-Ok.op _ _ c.in-Some.ensures c.in-Ok.ensures.ok
+    c.in-Ok-read_boxed.ensures.ok c.in-Ok-read_boxed-2.ensures.ok)
 
 -- ---- a list of exactly these
 
-pub read_listed-returns-then-values-places-clause-err : goal.read_listed-returns-then-values-places-clause-err
-read_listed-returns-then-values-places-clause-err t c =
-    IsErrorOf-own _ _ _ _ c.shape-then-values-places.ensures (other_count (names_of (declared c.args.tables.now)) c.args.places.now c.in-Some.values.now _ c.in-Some.ensures c.if-values-places.true)
+pub read_listed-returns-then-values-places : goal.read_listed-returns-then-values-places
+read_listed-returns-then-values-places t c =
+    told (IsErrorOf-own _ _ _ _ c.shape-then-values-places.ensures (other_count (names_of (declared c.args.tables.now)) c.args.places.now c.in-Some.values.now _ c.in-Some.ensures c.if-values-places.true))
 
 pub read_item-read_place-requires : goal.read_item-read_place-requires
 read_item-read_place-requires t c =
@@ -74,10 +73,10 @@ pub read_item-returns-in-Err-clause-err : goal.read_item-returns-in-Err-clause-e
 read_item-returns-in-Err-clause-err t c =
     c.below.ensures _ _ _ _ (item_part_at (names_of (declared c.args.tables.now)) c.args.places.now c.args.values.now c.args.number _ c.index-values-number.result c.requires c.if-number-places.false c.index-values-number.is) c.in-Err.ensures.err
 
-pub read_place-returns-in-Err-read_leaves-clause-err : goal.read_place-returns-in-Err-read_leaves-clause-err
-read_place-returns-in-Err-read_leaves-clause-err t c =
-    let names = names_of (declared c.args.tables.now) in
-    subst (λ p. IsErrorOf (asked_form names (place_view p)) (view c.args.value.now) c.in-Err-read_leaves.error) (sym c.in-Leaves.is) (c.in-Err-read_leaves.ensures.err.told names)
+pub read_place-returns-in-Err-read_leaves : goal.read_place-returns-in-Err-read_leaves
+read_place-returns-in-Err-read_leaves t c =
+    told (let names = names_of (declared c.args.tables.now) in
+    subst (λ p. IsErrorOf (asked_form names (place_view p)) (view c.args.value.now) c.in-Err-read_leaves.error) (sym c.in-Leaves.is) (c.in-Err-read_leaves.ensures.err.told names))
 
 -- ---- a list of expressions
 
@@ -87,10 +86,10 @@ read_expressions-loop-number-preserved t c =
     all_of-more (read_as (declared c.args.tables.now) expression) c.in-Some.values.now c.loop-number.number _ _ _ c.loop-number-test.true c.index-values-number.is c.loop-number.invariant c.in-Ok.ensures.ok
     ∙ ap Some (sym (ap (λ l. map expression_read (map tree_of l)) c.in_ok-push-in-Ok.ensures.items ∙ ap (map expression_read) (map-append tree_of items _) ∙ map-append expression_read (map tree_of items) _))
 
-pub read_expressions-returns-after-loop-number-clause-ok : goal.read_expressions-returns-after-loop-number-clause-ok
-read_expressions-returns-after-loop-number-clause-ok t c =
-    let tables = declared c.args.tables.now in
-    each_read tables expression _ _ _ c.in-Some.ensures (sym (all_taken (all_of (read_as tables expression)) c.in-Some.values.now c.loop-number.number (omega arith)) ∙ c.loop-number.invariant)
+pub read_expressions-returns-after-loop-number : goal.read_expressions-returns-after-loop-number
+read_expressions-returns-after-loop-number t c =
+    read (let tables = declared c.args.tables.now in
+    each_read tables expression _ _ _ c.in-Some.ensures (sym (all_taken (all_of (read_as tables expression)) c.in-Some.values.now c.loop-number.number (omega arith)) ∙ c.loop-number.invariant))
 
 -- ---- a list of selectors
 
@@ -100,51 +99,48 @@ read_selectors-loop-number-preserved t c =
     all_of-more (read_as (declared c.args.tables.now) selector) c.in-Some.values.now c.loop-number.number _ _ _ c.loop-number-test.true c.index-values-number.is c.loop-number.invariant (c.in-Ok.ensures.ok ∙ ap Some c.selector.ensures ∙ ap (λ x. Some (selector_read (selector_tree x))) (sym c.into_inner.ensures))
     ∙ ap Some (sym (ap (λ l. map selector_read (map selector_tree l)) c.in_ok-push-in-Ok.ensures.items ∙ ap (map selector_read) (map-append selector_tree items _) ∙ map-append selector_read (map selector_tree items) _))
 
-pub read_selectors-returns-after-loop-number-clause-ok : goal.read_selectors-returns-after-loop-number-clause-ok
-read_selectors-returns-after-loop-number-clause-ok t c =
-    let tables = declared c.args.tables.now in
-    each_read tables selector _ _ _ c.in-Some.ensures (sym (all_taken (all_of (read_as tables selector)) c.in-Some.values.now c.loop-number.number (omega arith)) ∙ c.loop-number.invariant)
+pub read_selectors-returns-after-loop-number : goal.read_selectors-returns-after-loop-number
+read_selectors-returns-after-loop-number t c =
+    read (let tables = declared c.args.tables.now in
+    each_read tables selector _ _ _ c.in-Some.ensures (sym (all_taken (all_of (read_as tables selector)) c.in-Some.values.now c.loop-number.number (omega arith)) ∙ c.loop-number.invariant))
 
 -- ---- errors of parts
 
-pub read_form-returns-in-Err-clause-err : goal.read_form-returns-in-Err-clause-err
-read_form-returns-in-Err-clause-err t c =
-    c.below.ensures _ _ _ (view c.in-Some.inner.now)
-    (key_part (names_of (declared c.args.tables.now)) c.args.kind _ _ _ (c.in-Some-find_key.word.now, c.in-Some-find_key.key) c.in-Some.ensures c.in-Some-find_key.ensures.row c.in-Some-find_key.ensures.word) c.in-Err.ensures.err
+pub read_form-returns-in-Err : goal.read_form-returns-in-Err
+read_form-returns-in-Err t c =
+    told (c.below.ensures _ _ _ (view c.in-Some.inner.now)
+    (key_part (names_of (declared c.args.tables.now)) c.args.kind _ _ _ (c.in-Some-find_key.word.now, c.in-Some-find_key.key) c.in-Some.ensures c.in-Some-find_key.ensures.row c.in-Some-find_key.ensures.word) c.in-Err.ensures.err)
 
-pub read_expression-returns-in-Err-clause-err : goal.read_expression-returns-in-Err-clause-err
-read_expression-returns-in-Err-clause-err t c =
-    c.below.ensures _ _ _ (view c.in-Some.inner.now)
-    (key_part (names_of (declared c.args.tables.now)) kinds.Expression _ _ _ (c.in-Some-find_expression.word.now, keys.Expression c.in-Some-find_expression.key) c.in-Some.ensures
-    (ap (option_map (λ (row : List ℕ × ExpressionKey). (row.0, keys.Expression row.1))) c.in-Some-find_expression.ensures.row) c.in-Some-find_expression.ensures.word) c.in-Err.ensures.err
+pub read_expression-returns-in-Err : goal.read_expression-returns-in-Err
+read_expression-returns-in-Err t c =
+    told (c.below.ensures _ _ _ (view c.in-Some.inner.now)
+    (key_part (names_of (declared c.args.tables.now)) kinds.Expression _ _ _ (c.in-Some-find_expression.word.now, keys.Expression c.in-Some-find_expression.key) c.in-Some.ensures c.in-Some-find_expression.ensures.row c.in-Some-find_expression.ensures.word) c.in-Err.ensures.err)
 
-pub read_boxed-returns-in-Ok-clause-ok : goal.read_boxed-returns-in-Ok-clause-ok
-read_boxed-returns-in-Ok-clause-ok t c =
-    form_read (declared c.args.tables.now) kinds.Expression _ _ _ (c.in-Some-find_expression.word.now, keys.Expression c.in-Some-find_expression.key) _ c.in-Some.ensures
-    (ap (option_map (λ (row : List ℕ × ExpressionKey). (row.0, keys.Expression row.1))) c.in-Some-find_expression.ensures.row) c.in-Ok.ensures.ok
+pub read_boxed-returns-in-Ok : goal.read_boxed-returns-in-Ok
+read_boxed-returns-in-Ok t c =
+    read (form_read (declared c.args.tables.now) kinds.Expression _ _ _ (c.in-Some-find_expression.word.now, keys.Expression c.in-Some-find_expression.key) _ c.in-Some.ensures c.in-Some-find_expression.ensures.row c.in-Ok.ensures.ok)
 
-pub read_boxed-returns-in-Err-clause-err : goal.read_boxed-returns-in-Err-clause-err
-read_boxed-returns-in-Err-clause-err t c =
-    c.below.ensures _ _ _ (view c.in-Some.inner.now)
-    (key_part (names_of (declared c.args.tables.now)) kinds.Expression _ _ _ (c.in-Some-find_expression.word.now, keys.Expression c.in-Some-find_expression.key) c.in-Some.ensures
-    (ap (option_map (λ (row : List ℕ × ExpressionKey). (row.0, keys.Expression row.1))) c.in-Some-find_expression.ensures.row) c.in-Some-find_expression.ensures.word) c.in-Err.ensures.err
+pub read_boxed-returns-in-Err : goal.read_boxed-returns-in-Err
+read_boxed-returns-in-Err t c =
+    told (c.below.ensures _ _ _ (view c.in-Some.inner.now)
+    (key_part (names_of (declared c.args.tables.now)) kinds.Expression _ _ _ (c.in-Some-find_expression.word.now, keys.Expression c.in-Some-find_expression.key) c.in-Some.ensures c.in-Some-find_expression.ensures.row c.in-Some-find_expression.ensures.word) c.in-Err.ensures.err)
 
-pub read_expressions-returns-in-Err-clause-err : goal.read_expressions-returns-in-Err-clause-err
-read_expressions-returns-in-Err-clause-err t c =
-    let asked = asked_form (names_of (declared c.args.tables.now)) expression in
+pub read_expressions-returns-in-Err : goal.read_expressions-returns-in-Err
+read_expressions-returns-in-Err t c =
+    told (let asked = asked_form (names_of (declared c.args.tables.now)) expression in
     c.below.ensures (list_of (names_of (declared c.args.tables.now)) expression) asked _ _
-    (item_in asked _ c.in-Some.values.now c.loop-number.number _ c.in-Some.ensures c.loop-number-test.true c.index-values-number.is) c.in-Err.ensures.err
+    (item_in asked _ c.in-Some.values.now c.loop-number.number _ c.in-Some.ensures c.loop-number-test.true c.index-values-number.is) c.in-Err.ensures.err)
 
-pub read_selectors-returns-in-Err-clause-err : goal.read_selectors-returns-in-Err-clause-err
-read_selectors-returns-in-Err-clause-err t c =
-    let asked = asked_form (names_of (declared c.args.tables.now)) selector in
+pub read_selectors-returns-in-Err : goal.read_selectors-returns-in-Err
+read_selectors-returns-in-Err t c =
+    told (let asked = asked_form (names_of (declared c.args.tables.now)) selector in
     c.below.ensures (list_of (names_of (declared c.args.tables.now)) selector) asked _ _
-    (item_in asked _ c.in-Some.values.now c.loop-number.number _ c.in-Some.ensures c.loop-number-test.true c.index-values-number.is) c.in-Err.ensures.err
+    (item_in asked _ c.in-Some.values.now c.loop-number.number _ c.in-Some.ensures c.loop-number-test.true c.index-values-number.is) c.in-Err.ensures.err)
 
-pub read_keyed-returns-in-Err-read_places-clause-err : goal.read_keyed-returns-in-Err-read_places-clause-err
-read_keyed-returns-in-Err-read_places-clause-err t c =
-    subst (λ p. IsErrorOf (places_form (names_of (declared c.args.tables.now)) p) (view c.args.value.now) c.in-Err-read_places.error) c.places_of.ensures.asks c.in-Err-read_places.ensures.err
+pub read_keyed-returns-in-Err-read_places : goal.read_keyed-returns-in-Err-read_places
+read_keyed-returns-in-Err-read_places t c =
+    told (subst (λ p. IsErrorOf (places_form (names_of (declared c.args.tables.now)) p) (view c.args.value.now) c.in-Err-read_places.error) c.places_of.ensures.asks c.in-Err-read_places.ensures.err)
 
-pub read_expression_of-returns-in-Err-read_places-clause-err : goal.read_expression_of-returns-in-Err-read_places-clause-err
-read_expression_of-returns-in-Err-read_places-clause-err t c =
-    subst (λ p. IsErrorOf (places_form (names_of (declared c.args.tables.now)) p) (view c.args.value.now) c.in-Err-read_places.error) c.expression_places.ensures.asks c.in-Err-read_places.ensures.err
+pub read_expression_of-returns-in-Err-read_places : goal.read_expression_of-returns-in-Err-read_places
+read_expression_of-returns-in-Err-read_places t c =
+    told (subst (λ p. IsErrorOf (places_form (names_of (declared c.args.tables.now)) p) (view c.args.value.now) c.in-Err-read_places.error) c.expression_places.ensures.asks c.in-Err-read_places.ensures.err)
