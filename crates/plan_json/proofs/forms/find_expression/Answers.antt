@@ -17,3 +17,6 @@ returns-in-Some-clause-row c = ap (option_map (λ (row : List ℕ × ExpressionK
 
 pub returns-in-Some-clause-plain : goal.returns-in-Some-clause-plain
 returns-in-Some-clause-plain c = named_plain expression_rows c.args.word.now (c.in-Some.word.now, c.in-Some.key) refl c.in-Some.ensures.row
+
+pub returns-in-None-clause-row : goal.returns-in-None-clause-row
+returns-in-None-clause-row c = ap (option_map (λ (row : List ℕ × ExpressionKey). (row.0, keys.Expression row.1))) c.in-None.ensures.row
