@@ -238,14 +238,6 @@ refused_predicate registry schema tree error (broken kind e b) = without_type ki
 pub other_type_refused : (registry : Registry) (schema : Columns) (first : ℕ) (items : List AExpr) (o : Output) (error : PlanError) → IsOutput registry schema first items o → same_type o.typed.type Truth ≡ false → error ≡ at_top InvalidOperation → IsPredicateRefusal registry schema o.tree error
 other_type_refused registry schema first items o error is other e = of_other_type o.typed e is.typed other
 
-pub not_true : (b : Bool) → not b ≡ true → b ≡ false
-not_true true h = cc
-not_true false h = refl
-
-pub not_false : (b : Bool) → not b ≡ false → b ≡ true
-not_false true h = refl
-not_false false h = cc
-
 -- earlier items stay
 pub earlier_kept : (old mid new : List AExpr) → Grows old mid → KeepsBelow (length old) mid new → KeepsExpressions old new
 earlier_kept old mid new g below n op inputs h =

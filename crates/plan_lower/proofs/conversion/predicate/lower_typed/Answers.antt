@@ -1,4 +1,5 @@
 use Rattle.std.proofs.Common.{[], ◌∷◌, length, refl, sym, ap, ◌∙◌, subst}
+use Rattle.std.proofs.lemmas.Bool.{not-true, not-false}
 use Rattle.plan_types.specs.Types.{ty, Truth}
 use Rattle.plan_types.specs.TypeLaws.{same_type_exact}
 use Rattle.plan_types.specs.Schemas.{columns}
@@ -10,7 +11,7 @@ use Rattle.plan_arena.proofs.ItemLemmas.{grown_held}
 use Rattle.plan_arena.proofs.OperandNameLemmas.{plan_names}
 use Rattle.plan_coerce.specs.Optimizer.{AreWrittenOut}
 use Rattle.plan_bounds.proofs.WideLemmas.{plan_wide}
-use Rattle.plan_lower.proofs.ProjectionLemmas.{one_output, root_typed, has_predicate, refused_predicate, other_type_refused, not_true, not_false, earlier_kept}
+use Rattle.plan_lower.proofs.ProjectionLemmas.{one_output, root_typed, has_predicate, refused_predicate, other_type_refused, earlier_kept}
 use Rattle.plan_infer.proofs.TableLemmas.{kept_type, type_of}
 use Rattle.plan_lower.proofs.conversion.predicate.lower_typed.Goals as goal
 
@@ -25,7 +26,7 @@ returns-then-ne-clause-err c =
     let tree = plain_tree c.args.predicate in
     let n = (named_node c.in_ok-expr_ir.expr_ir).expression in
     let is = one_output r schema (length c.args.arena.now) c.add_typed.new.arena tree n c.node.result.0 (ty c.get.result.now.dtype) c.in_ok-expr_ir.ensures.denotes (plan_names c.args.predicate) (plan_wide c.args.predicate) c.node.ensures (kept_type r schema c.add_typed.new.arena c.add_typed.new.types c.in_ok-expr_ir.ensures.right c.node.result.0 _ (type_of c.add_typed.new.types c.node.result.0 c.get.result.now c.get.ensures)) in
-    other_type_refused r schema (length c.args.arena.now) c.add_typed.new.arena _ c.at_top.result is.1 (not_true _ (sym c.ne.ensures ∙ c.if-ne.true)) c.at_top.ensures
+    other_type_refused r schema (length c.args.arena.now) c.add_typed.new.arena _ c.at_top.result is.1 (not-true _ (sym c.ne.ensures ∙ c.if-ne.true)) c.at_top.ensures
 
 pub returns-in-Ok-clause-ok : goal.returns-in-Ok-clause-ok
 returns-in-Ok-clause-ok c =
@@ -34,7 +35,7 @@ returns-in-Ok-clause-ok c =
     let first = length c.args.arena.now in
     let n = (named_node c.in_ok-expr_ir.expr_ir).expression in
     let is = one_output r schema first c.add_typed.new.arena (plain_tree c.args.predicate) n c.node.result.0 (ty c.get.result.now.dtype) c.in_ok-expr_ir.ensures.denotes (plan_names c.args.predicate) (plan_wide c.args.predicate) c.node.ensures (kept_type r schema c.add_typed.new.arena c.add_typed.new.types c.in_ok-expr_ir.ensures.right c.node.result.0 _ (type_of c.add_typed.new.types c.node.result.0 c.get.result.now c.get.ensures)) in
-    let truth = same_type_exact (ty c.get.result.now.dtype) Truth (not_false _ (sym c.ne.ensures ∙ c.if-ne.false)) in
+    let truth = same_type_exact (ty c.get.result.now.dtype) Truth (not-false _ (sym c.ne.ensures ∙ c.if-ne.false)) in
     let roots = ap (λ k. k ∷ []) c.node-2.ensures in
     let coerced = c.in-Ok.ensures.ok first (root_typed r schema first c.add_typed.new.arena _ _ is.1 roots) in
     has_predicate r schema first c.add_typed.new.arena c.coerce_root.new.arena _ (named_node c.in_ok-expr_ir.expr_ir) is.1 truth c.in_ok-expr_ir.ensures.name refl (subst (AreWrittenOut r schema first c.add_typed.new.arena c.coerce_root.new.arena) roots coerced)
