@@ -1,5 +1,5 @@
 //! Casts round the operands of what is lowered, by the rule of coercion.
-ghost use Rattle.std.specs.Prelude.{◌≡◌, ◌<◌, ℕ, ◌∷◌, [], map, IfErr, IfOk, OnOk};
+ghost use Rattle.std.specs.Prelude.{◌≡◌, ◌<◌, ℕ, map, IfErr, IfOk, OnOk};
 ghost use Rattle.std.specs.List.{AllByRecursion};
 ghost use Rattle.plan_types.specs.Errors.{no_memory};
 ghost use Rattle.plan_types.specs.Schemas.{columns};
@@ -11,8 +11,8 @@ ghost use Rattle.plan_coerce.specs.Coercion.{KeepsBelow};
 ghost use Rattle.plan_coerce.specs.Optimizer.{AreWrittenOut, roots_of};
 
 use plan_arena::aexpr::AExpr;
-use plan_arena::arena::{Arena, Node};
-use plan_arena::expr_ir::ExprIRs;
+use plan_arena::arena::Arena;
+use plan_arena::expr_ir::ExprIR;
 use plan_coerce::coercion_rule::TypeCoercionRule;
 use plan_coerce::stack_opt::ConversionOptimizer;
 use plan_dsl::udfs::Udfs;
@@ -26,17 +26,17 @@ use std::sync::ledger::{Blank, Ledger};
 
 /// Puts casts round the operands of each node that the expressions reach, but for those that can be told beforehand.
 pub(crate) fn coerce_all(
-    exprs: &ExprIRs,
+    exprs: &[ExprIR],
     arena: &mut Arena<AExpr>,
     schema: &Schema,
     udfs: &Udfs,
     types: &mut TypeTable,
 ) -> Result<(), PlanError>
     requires right { IsRight (registry udfs.now) (columns schema.now) arena.old types.old }
-    requires known { (start : ℕ) × AllByRecursion (DenotesKnown (registry udfs.now) (columns schema.now) start arena.old) (map (λ e. (named_node e).expression) exprs.now.items.items) }
-    ensures ok { OnOk result ((first : ℕ) → AllByRecursion (DenotesKnown (registry udfs.now) (columns schema.now) first arena.old) (map (λ e. (named_node e).expression) exprs.now.items.items) →
-        AreWrittenOut (registry udfs.now) (columns schema.now) first arena.old arena.new (map (λ e. (named_node e).expression) exprs.now.items.items)) }
-    ensures below { (first : ℕ) → AllByRecursion (DenotesKnown (registry udfs.now) (columns schema.now) first arena.old) (map (λ e. (named_node e).expression) exprs.now.items.items) →
+    requires known { (start : ℕ) × AllByRecursion (DenotesKnown (registry udfs.now) (columns schema.now) start arena.old) (map (λ e. (named_node e).expression) exprs.now) }
+    ensures ok { OnOk result ((first : ℕ) → AllByRecursion (DenotesKnown (registry udfs.now) (columns schema.now) first arena.old) (map (λ e. (named_node e).expression) exprs.now) →
+        AreWrittenOut (registry udfs.now) (columns schema.now) first arena.old arena.new (map (λ e. (named_node e).expression) exprs.now)) }
+    ensures below { (first : ℕ) → AllByRecursion (DenotesKnown (registry udfs.now) (columns schema.now) first arena.old) (map (λ e. (named_node e).expression) exprs.now) →
         KeepsBelow first arena.old arena.new }
     ensures err { IfErr result (λ error. error ≡ no_memory) }
 {
@@ -44,43 +44,13 @@ pub(crate) fn coerce_all(
     coerce_stacked(optimizer, arena, schema, udfs, types)
 }
 
-/// Puts casts round the operands of each node that a root reaches, but for those that can be told beforehand.
-pub(crate) fn coerce_root(
-    root: Node,
-    arena: &mut Arena<AExpr>,
-    schema: &Schema,
-    udfs: &Udfs,
-    types: &mut TypeTable,
-) -> Result<(), PlanError>
-    requires right { IsRight (registry udfs.now) (columns schema.now) arena.old types.old }
-    requires known { (start : ℕ) × AllByRecursion (DenotesKnown (registry udfs.now) (columns schema.now) start arena.old) (root.0 ∷ []) }
-    ensures ok { OnOk result ((first : ℕ) → AllByRecursion (DenotesKnown (registry udfs.now) (columns schema.now) first arena.old) (root.0 ∷ []) →
-        AreWrittenOut (registry udfs.now) (columns schema.now) first arena.old arena.new (root.0 ∷ [])) }
-    ensures below { (first : ℕ) → AllByRecursion (DenotesKnown (registry udfs.now) (columns schema.now) first arena.old) (root.0 ∷ []) →
-        KeepsBelow first arena.old arena.new }
-    ensures err { IfErr result (λ error. error ≡ no_memory) }
-{
-    let optimizer = stacked_root(root, arena.allocator())?;
-    coerce_stacked(optimizer, arena, schema, udfs, types)
-}
-
 // An optimizer on which the expressions' nodes are stacked.
-fn stacked_all(exprs: &ExprIRs, alloc: Global) -> Result<ConversionOptimizer, PlanError>
-    ensures ok { IfOk result (λ optimizer. roots_of optimizer ≡ map (λ e. (named_node e).expression) exprs.now.items.items) }
+fn stacked_all(exprs: &[ExprIR], alloc: Global) -> Result<ConversionOptimizer, PlanError>
+    ensures ok { IfOk result (λ optimizer. roots_of optimizer ≡ map (λ e. (named_node e).expression) exprs.now) }
     ensures err { IfErr result (λ error. error ≡ no_memory) }
 {
     let mut optimizer = ConversionOptimizer::new(alloc);
-    optimizer.fill_roots(exprs.items.as_slice())?;
-    Ok(optimizer)
-}
-
-// One on which a node is.
-fn stacked_root(root: Node, alloc: Global) -> Result<ConversionOptimizer, PlanError>
-    ensures ok { IfOk result (λ optimizer. roots_of optimizer ≡ root.0 ∷ []) }
-    ensures err { IfErr result (λ error. error ≡ no_memory) }
-{
-    let mut optimizer = ConversionOptimizer::new(alloc);
-    optimizer.push_root_alone(root)?;
+    optimizer.fill_roots(exprs)?;
     Ok(optimizer)
 }
 

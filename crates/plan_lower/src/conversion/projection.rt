@@ -129,7 +129,7 @@ fn project_coerced(
     ensures err { IfErr result (IsProjectionRefusal (registry udfs.now) (columns schema.now) twice (plain_trees exprs)) }
 {
     let projection = project(exprs, schema, arena, udfs, twice, types)?;
-    match coerce_all(&projection.expr, arena, schema, udfs, types) {
+    match coerce_all(projection.expr.items.as_slice(), arena, schema, udfs, types) {
         Ok(()) => Ok(projection),
         Err(error) => {
             drop(projection);
