@@ -1,5 +1,5 @@
 -- Functions as they are lowered: horizontals over few operands, which are written out operand by operand, and the others.
-use Rattle.std.proofs.Common.{◌≡◌, ◌≢◌, ◌≤◌, ◌&&◌, ℕ, suc, Bool, true, false, not, List, [], ◌∷◌, ◌++◌, Option, Some, None, length, map, slice_get, refl, sym, ap, ◌∙◌, subst, arith}
+use Rattle.std.proofs.Common.{◌≡◌, ◌≢◌, ◌≤◌, ◌+◌, ◌&&◌, ℕ, suc, Bool, true, false, not, List, [], ◌∷◌, ◌++◌, Option, Some, None, length, map, drop, slice_get, refl, sym, ap, ◌∙◌, subst, arith}
 use Rattle.std.specs.List.{list_all}
 use Rattle.std.specs.Option.{option_map_or}
 use Rattle.std.specs.Prelude.{MatchOption}
@@ -23,8 +23,8 @@ use Rattle.plan_dsl.specs.Expressions.{function_source, plain_tree, plain_trees,
 use Rattle.plan_dsl.specs.Functions.{is_expanded_function}
 use Rattle.plan_dsl.specs.Names.{Label, label_of, op_label}
 use Rattle.plan_dsl.specs.Ops.{Op, BinaryOp, CastOp, FunctionOp, LiteralOp, Expression}
-use Rattle.plan_dsl.specs.Sources.{Plain, SourceOp, all_unwritten, is_plain, unwritten}
-use Rattle.plan_dsl.specs.Trees.{Trees, node, no_more, more, children_from, fold_all, tree_count}
+use Rattle.plan_dsl.specs.Sources.{Plain, Source, SourceOp, all_unwritten, is_plain, unwritten}
+use Rattle.plan_dsl.specs.Trees.{Trees, node, no_more, more, children_from, fold_all, top_op, tree_count}
 use Rattle.plan_dsl.proofs.AliasLemmas.{chain_label}
 use Rattle.plan_dsl.proofs.ExprLemmas.{function_listed, function_plain}
 use Rattle.plan_arena.specs.declared.aexpr.AExpr.{AExpr}
@@ -34,7 +34,9 @@ use Rattle.plan_arena.specs.Denotation.{Denotes}
 use Rattle.plan_arena.specs.declared.expr_ir.OutputName.{OutputName}
 use Rattle.plan_arena.specs.Items.{Grows, HoldsFrom, output_label}
 use Rattle.plan_arena.proofs.ItemLemmas.{tree_grown}
-use Rattle.plan_lower.specs.Horizontals.{InChain, IsNamedAlone, IsNamedAs, IsNamedUnder, IsWrittenBy, all_write_none, called, writes_none}
+use Rattle.plan_expand.specs.Walks.{plan_operands_in}
+use Rattle.plan_expand.proofs.WalkLemmas.{at_place, over_operands}
+use Rattle.plan_lower.specs.Horizontals.{InChain, IsNamedAlone, IsNamedAs, IsNamedUnder, IsWrittenBy, all_write_no_chain, called, is_chain, writes_no_chain}
 use Rattle.plan_lower.specs.Nodes.{IsItemOf}
 use Rattle.plan_lower.proofs.NodeLemmas.{all_unwritten_from, item_denotes}
 
@@ -55,10 +57,6 @@ plain_function expr input function is plain =
     let whole = ap unwritten listed.is ∙ ap (λ op. unwritten (node op (children_from (trees_of input)))) (expanded_source function parts.0) in
     (parts.1, whole ∙ ap (node (FunctionOp function [])) (operands_of input))
 
-expanded_called : (function : FunctionExpr) (input : Exprs) → is_expanded_function function ≡ true → called function input ≡ node (FunctionOp function []) (children_from (plain_trees input))
-expanded_called function input expanded =
-    ap (λ op. unwritten (node op (children_from (trees_of input)))) (expanded_source function expanded) ∙ ap (node (FunctionOp function [])) (operands_of input)
-
 counted : (trees : List Expression) → tree_count (children_from trees) ≡ length trees
 counted [] = refl
 counted (tree ∷ trees) = ap suc (counted trees)
@@ -66,7 +64,7 @@ counted (tree ∷ trees) = ap suc (counted trees)
 pub operands_counted : (input : Exprs) → tree_count (children_from (plain_trees input)) ≡ length input.items.items
 operands_counted input = counted (plain_trees input) ∙ length-map input.items.items plain_tree
 
-all_counted : (keep write : Bool) (trees : Trees Op) → tree_count (all_pruned keep write trees) ≡ tree_count trees
+pub all_counted : (keep write : Bool) (trees : Trees Op) → tree_count (all_pruned keep write trees) ≡ tree_count trees
 all_counted keep write no_more = refl
 all_counted keep write (more tree trees) = ap suc (all_counted keep write trees)
 
@@ -91,22 +89,31 @@ function_stays keep write function children count stays same =
     ap (as_out keep write function children) (ap (is_written_out write (FunctionOp function [])) same ∙ stays)
     ∙ ap (λ b. node (FunctionOp function (fold_all op_label children)) (all_pruned b write children)) (and_right keep false refl)
 
--- ---- expressions in which none is written out
+-- ---- expressions in which none is written out by several operators
 
-pub each_writes_none : (trees : List Expression) → all_write_none (children_from trees) ≡ list_all writes_none trees
-each_writes_none [] = refl
-each_writes_none (tree ∷ trees) = ap (λ b. writes_none tree && b) (each_writes_none trees)
+-- the op of a function in a plan is such a one where the function is
+pub function_chained : (expr : Expr) (input : Exprs) (function : FunctionExpr) (count : ℕ) → expr ≡ Function input function → is_chain (top_op (plain_tree expr)) count ≡ is_chain (FunctionOp function []) count
+function_chained expr input function count is =
+    ap (λ s. is_chain (top_op (unwritten s)) count) (function_listed expr input function is).is ∙ own function
+  where
+    own : (f : FunctionExpr) → is_chain (top_op (unwritten (node (function_source f) (children_from (trees_of input))))) count ≡ is_chain (FunctionOp f []) count
+    own (FieldByIndex place) = refl
+    own _ = refl
 
--- a field at a place is no expression of a plan
-pub field_writes_none : (function : FunctionExpr) (input : Exprs) → is_expanded_function function ≡ false → writes_none (called function input) ≡ true
-field_writes_none (FieldByIndex place) input unexpanded = refl
-field_writes_none _ input unexpanded = absurd (false≢true (sym unexpanded))
+each_writes_no_chain : (trees : List Expression) → all_write_no_chain (children_from trees) ≡ list_all writes_no_chain trees
+each_writes_no_chain [] = refl
+each_writes_no_chain (tree ∷ trees) = ap (λ b. writes_no_chain tree && b) (each_writes_no_chain trees)
 
--- a function writes none where it is not written out, nor a horizontal in its operands
-pub called_writes : (function : FunctionExpr) (input : Exprs) (out : Bool) → is_expanded_function function ≡ true → is_written_out true (FunctionOp function []) (length input.items.items) ≡ out → writes_none (called function input) ≡ (not out && list_all writes_none (plain_trees input))
-called_writes function input out expanded is =
-    ap writes_none (expanded_called function input expanded)
-    ∙ (λ i. not ((ap (is_written_out true (FunctionOp function [])) (operands_counted input) ∙ is) i) && each_writes_none (plain_trees input) i)
+-- an expression has none where its node isn't one and its operands have none, one after the other
+pub walk_start : (source : Source) (trees : List Source) (count : ℕ) → Some trees ≡ plan_operands_in source → count ≡ length trees → writes_no_chain (unwritten source) ≡ (not (is_chain (top_op (unwritten source)) count) && list_all writes_no_chain (map unwritten trees))
+walk_start source trees count are counts =
+    let all = map unwritten trees in
+    let same = counted all ∙ length-map trees unwritten ∙ sym counts in
+    ap writes_no_chain (over_operands source trees are) ∙ (λ i. not (is_chain (top_op (unwritten source)) (same i)) && each_writes_no_chain all i)
+
+pub walk_step : (trees : List Source) (place : ℕ) (tree : Source) (none : Bool) → Some tree ≡ slice_get trees place → none ≡ writes_no_chain (unwritten tree) → list_all writes_no_chain (map unwritten (drop place trees)) ≡ (none && list_all writes_no_chain (map unwritten (drop (place + 1) trees)))
+walk_step trees place tree none is found =
+    ap (λ l. list_all writes_no_chain (map unwritten l)) (at_place trees place tree is) ∙ ap (λ b. b && list_all writes_no_chain (map unwritten (drop (place + 1) trees))) (sym found)
 
 -- ---- chains, operand by operand
 

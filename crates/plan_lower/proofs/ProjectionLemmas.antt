@@ -1,5 +1,5 @@
 -- Projections, output by output.
-use Rattle.std.proofs.Common.{◌≡◌, ℕ, ◌<◌, ◌≤◌, IfErr, Result, Ok, Err, List, [], ◌∷◌, ◌++◌, length, map, Option, Some, None, Bool, true, false, not, is_some, IsTrue, refl, sym, ap, ◌∙◌, subst, arith, append_assoc, append-nil}
+use Rattle.std.proofs.Common.{◌≡◌, ℕ, ◌<◌, ◌≤◌, IfErr, Result, Ok, Err, List, [], ◌∷◌, ◌++◌, length, map, Option, Some, None, Bool, true, false, is_some, IsTrue, refl, sym, ap, ◌∙◌, subst, arith, append_assoc, append-nil}
 use Rattle.std.specs.List.{AllByRecursion}
 use Rattle.std.proofs.lemmas.List.{map-append, length-map}
 use Rattle.plan_types.proofs.ListLemmas.{map-map}
@@ -10,6 +10,8 @@ use Rattle.plan_types.specs.declared.error.ErrorKind.{ErrorKind}
 use Rattle.plan_types.specs.declared.error.ErrorKind.TheVariants.{InvalidOperation}
 use Rattle.plan_types.specs.declared.error.PlanError.{PlanError}
 use Rattle.plan_types.proofs.SchemaLemmas.{with_column-new, HasDistinctNames-push}
+use Rattle.plan_dsl.specs.declared.expr.Expr.{Expr}
+use Rattle.plan_dsl.specs.Expressions.{plain_tree}
 use Rattle.plan_dsl.specs.Registry.{Registry}
 use Rattle.plan_dsl.specs.Ops.{Expression}
 use Rattle.plan_dsl.specs.Strictness.{IsStrict}
@@ -18,7 +20,7 @@ use Rattle.plan_dsl.specs.Plans.{Named}
 use Rattle.plan_dsl.specs.Aliases.{core, spelled}
 use Rattle.plan_dsl.specs.Literals.{settled}
 use Rattle.plan_dsl.proofs.LiteralLemmas.{settled_known}
-use Rattle.plan_dsl.specs.Typing.{typing}
+use Rattle.plan_dsl.specs.Typing.{Typed, typing}
 use Rattle.plan_arena.specs.declared.aexpr.AExpr.{AExpr}
 use Rattle.plan_arena.specs.Denotation.{Denotes}
 use Rattle.plan_arena.specs.declared.expr_ir.ExprIR.{ExprIR}
@@ -26,22 +28,23 @@ use Rattle.plan_arena.specs.Items.{HoldsFrom, HoldsExpression, Grows, DenoteName
 use Rattle.plan_arena.specs.Layers.{shape_of, inputs_of}
 use Rattle.plan_arena.specs.Runs.{NamesOperands}
 use Rattle.plan_arena.proofs.DenotationLemmas.{denotes_one}
+use Rattle.plan_arena.proofs.OperandNameLemmas.{plan_names}
 use Rattle.plan_arena.proofs.ItemLemmas.{any_node, tree_grown, expression_laws, grown_held}
 use Rattle.plan_infer.specs.Typed.{DenotesKnown}
 use Rattle.plan_coerce.specs.Coercion.{KeepsBelow}
 use Rattle.plan_coerce.specs.Optimizer.{AreWrittenOut, IsWrittenOut}
 use Rattle.plan_coerce.proofs.NameLemmas.{written_names}
 use Rattle.plan_bounds.specs.LoweredPlans.{has_wide_horizontals}
-use Rattle.plan_bounds.proofs.WideLemmas.{written_wide}
-use Rattle.plan_infer.proofs.TableLemmas.{still_kept}
-use Rattle.plan_infer.specs.KeptTypes.{IsKept, Extends}
+use Rattle.plan_bounds.proofs.WideLemmas.{plan_wide, written_wide}
+use Rattle.plan_infer.proofs.TableLemmas.{kept_typing, still_kept}
+use Rattle.plan_infer.specs.KeptTypes.{IsKept, IsRight, KeepsEntry, Extends, typed_of}
 use Rattle.plan_lower.proofs.SpelledLemmas.{typed_core, typed_spelled}
 use Rattle.plan_lower.specs.Nodes.{KeepsExpressions}
 use Rattle.plan_lower.specs.Outputs.{Lowered, lowered_named, lowered_column, IsLowered, HasOutputs}
+use Rattle.plan_infer.specs.declared.type_table.Inferred.{Inferred}
 use Rattle.plan_infer.specs.declared.type_table.TypeTable.{TypeTable}
 use Rattle.plan_arena.proofs.NumberLemmas.{all_weaker, all_joined}
 use Rattle.plan_types.specs.Errors.{IsRefusal, no_room as short, broken}
-use Rattle.plan_infer.specs.Typed.{HasType}
 use Rattle.plan_lower.specs.Predicates.{HasPredicate, IsPredicateRefusal, without_room, without_type, of_other_type}
 use Rattle.plan_lower.specs.Projection.{Output, output_node, output_column, IsOutput, Projects, AddsOutput, IsOutputRefusal, no_room, untyped, IsProjectionRefusal, refused}
 
@@ -61,18 +64,17 @@ column_added old new seen copy name type absent s c e =
 abbrev record_of : Label → ℕ → Named ℕ
 record_of label expression = record { label = label; expression = expression }
 
--- a node of an expression that has a type, and a column of its name
-pub adds_output : (registry : Registry) (schema : Columns) (first : ℕ) (items : List AExpr) (tree : Expression) (node : Named ℕ) (asked : ℕ) (old new : Columns) (seen copy : Name) (type : Ty) → node.label ≡ label_of tree → Denotes (HoldsFrom first items) node.expression (settled (spelled tree)) → NamesOperands (settled (spelled tree)) → IsTrue (has_wide_horizontals (settled (spelled tree))) → asked ≡ node.expression → ((t : Expression) → Denotes (HoldsExpression items) asked t → HasType (typing registry schema t) type) → is_some (type_at old seen) ≡ false → seen ≡ node.label.name → copy ≡ node.label.name → new ≡ with_column old copy type → AddsOutput registry schema first items tree node old new
-adds_output registry schema first items tree node asked old new seen copy type label d names wide at typed absent s c e =
+-- the node of an output, and a column of its name
+pub adds_output : {registry : Registry} {schema : Columns} {first : ℕ} {items : List AExpr} (tree : Expression) (node : Named ℕ) (typed : Typed) (old new : Columns) (seen copy : Name) (type : Ty) → node.label ≡ label_of tree → IsOutput registry schema first items (record { tree = tree; node = node.expression; typed = typed }) → is_some (type_at old seen) ≡ false → seen ≡ node.label.name → copy ≡ node.label.name → type ≡ typed.type → new ≡ with_column old copy type → AddsOutput registry schema first items tree node old new
+adds_output tree node typed old new seen copy type label is absent s c t e =
     let name = ap (λ (l : Label). l.name) label in
-    let has = typed (settled (spelled tree)) (subst (λ k. Denotes (HoldsExpression items) k (settled (spelled tree))) (sym at) (any_node first items node.expression (settled (spelled tree)) d)) in
     record {
-      output = record { tree = tree; node = node.expression; typed = record { type = type; many = has.many } };
-      is = record { denotes = d; typed = typed_core registry schema tree _ has.is; names = names; wide = wide };
+      output = record { tree = tree; node = node.expression; typed = typed };
+      is = is;
       tree_is = refl;
       node_is = ap (λ n. record_of n node.expression) (sym label);
       new_name = no_type (type_at old (name_of tree)) (ap (λ n. is_some (type_at old n)) (sym (s ∙ name)) ∙ absent);
-      column_is = column_added old new seen copy (name_of tree) type absent (s ∙ name) (c ∙ name) e;
+      column_is = column_added old new seen copy (name_of tree) typed.type absent (s ∙ name) (c ∙ name) (e ∙ ap (with_column old copy) t);
     }
 
 -- outputs stay where the arena grows
@@ -159,6 +161,12 @@ roots_typed registry schema lower first items le (o ∷ os) all =
     let typed = typed_spelled registry schema o.tree o.typed all.0.typed in
     (record { tree = settled (spelled o.tree); denotes = tree_grown first lower items items le nothing o.node (settled (spelled o.tree)) all.0.denotes; has = record { typed = o.typed; is = typed; known = settled_known registry schema (spelled o.tree) o.typed typed } }, roots_typed registry schema lower first items le os all.1)
 
+-- and so are those that are lent
+pub projected_typed : {registry : Registry} {schema : Columns} {first : ℕ} {items : List AExpr} {trees : List Expression} {columns : Columns} (exprs lent : List ExprIR) → Projects registry schema first items trees (map named_node exprs) columns → lent ≡ exprs → AllByRecursion (DenotesKnown registry schema first items) (map (λ (e : ExprIR). (named_node e).expression) lent)
+projected_typed {registry} {schema} {first} {items} exprs lent p is =
+    let roots = ap (map (λ (e : ExprIR). (named_node e).expression)) is ∙ roots_are exprs p.outputs p.nodes_are in
+    subst (AllByRecursion (DenotesKnown registry schema first items)) (sym roots) (roots_typed registry schema first first items (omega arith) p.outputs p.each)
+
 -- the outputs with what stands for them after coercion
 record HasLowered (registry : Registry) (schema : Columns) (items : List AExpr) (outputs : List Output) : Type 0 where
   lowered : List Lowered
@@ -203,11 +211,14 @@ has_outputs registry schema first old new trees nodes columns p coerced =
       columns_are = columns_are;
     }
 
--- one output that has a type
-pub one_output : (registry : Registry) (schema : Columns) (first : ℕ) (items : List AExpr) (tree : Expression) (n asked : ℕ) (type : Ty) → Denotes (HoldsFrom first items) n (settled (spelled tree)) → NamesOperands (settled (spelled tree)) → IsTrue (has_wide_horizontals (settled (spelled tree))) → asked ≡ n → ((t : Expression) → Denotes (HoldsExpression items) asked t → HasType (typing registry schema t) type) → (many : Bool) × IsOutput registry schema first items (record { tree = tree; node = n; typed = record { type = type; many = many } })
-one_output registry schema first items tree n asked type d names wide at typed =
-    let has = typed (settled (spelled tree)) (subst (λ k. Denotes (HoldsExpression items) k (settled (spelled tree))) (sym at) (any_node first items n (settled (spelled tree)) d)) in
-    (has.many, record { denotes = d; typed = typed_core registry schema tree _ has.is; names = names; wide = wide })
+-- an expression that was added, of the typing that is kept at its node
+pub added_output : {registry : Registry} {schema : Columns} {first : ℕ} {items : List AExpr} (types : TypeTable) (expr : Expr) (n asked : ℕ) (own : Inferred) → IsRight registry schema items types → Denotes (HoldsFrom first items) n (settled (spelled (plain_tree expr))) → asked ≡ n → KeepsEntry types asked own
+    → IsOutput registry schema first items (record { tree = plain_tree expr; node = n; typed = typed_of own })
+added_output {registry} {schema} {first} {items} types expr n asked own right denotes at keeps =
+    let tree = settled (spelled (plain_tree expr)) in
+    let here = subst (λ k. Denotes (HoldsExpression items) k tree) (sym at) (any_node first items n tree denotes) in
+    let typed = typed_core registry schema (plain_tree expr) (typed_of own) (kept_typing registry schema items types right asked own keeps tree here) in
+    record { denotes = denotes; typed = typed; names = plan_names expr; wide = plan_wide expr }
 
 -- a predicate of the type of truth values that was coerced
 pub has_predicate : (registry : Registry) (schema : Columns) (first : ℕ) (old new : List AExpr) (o : Output) (node : Named ℕ) → IsOutput registry schema first old o → o.typed.type ≡ Truth → node.label ≡ label_of o.tree → node.expression ≡ o.node → AreWrittenOut registry schema first old new (o.node ∷ []) → HasPredicate registry schema new o.tree node
@@ -237,14 +248,6 @@ refused_predicate registry schema tree error (broken kind e b) = without_type ki
 -- a typed expression of another type than that of truth values is no predicate
 pub other_type_refused : (registry : Registry) (schema : Columns) (first : ℕ) (items : List AExpr) (o : Output) (error : PlanError) → IsOutput registry schema first items o → same_type o.typed.type Truth ≡ false → error ≡ at_top InvalidOperation → IsPredicateRefusal registry schema o.tree error
 other_type_refused registry schema first items o error is other e = of_other_type o.typed e is.typed other
-
-pub not_true : (b : Bool) → not b ≡ true → b ≡ false
-not_true true h = cc
-not_true false h = refl
-
-pub not_false : (b : Bool) → not b ≡ false → b ≡ true
-not_false true h = refl
-not_false false h = cc
 
 -- earlier items stay
 pub earlier_kept : (old mid new : List AExpr) → Grows old mid → KeepsBelow (length old) mid new → KeepsExpressions old new

@@ -1,5 +1,5 @@
 -- Horizontals over few operands, which are written out: what by, and the chain of an operator as it is put together.
-use Rattle.std.specs.Prelude.{◌≡◌, ℕ, Bool, true, not, ◌&&◌, List, [], Option, Some, None}
+use Rattle.std.specs.Prelude.{◌≡◌, ℕ, nat_lt, Bool, true, not, ◌&&◌, List, [], Option, Some, None}
 use Rattle.std.specs.Option.{option_map_or}
 use Rattle.plan_dsl.specs.declared.function_expr.FunctionExpr.{FunctionExpr}
 use Rattle.plan_dsl.specs.declared.operator.Operator.{Operator}
@@ -21,14 +21,19 @@ pub record IsWrittenBy (function : FunctionExpr) (count : ℕ) (operator : Opera
   pub out : is_written_out true (FunctionOp function []) count ≡ true
   pub by : (operands : Trees Op) → written_out (FunctionOp function []) operands ≡ chained operator nothing operands
 
-abbrev mutual
-  -- whether no horizontal in an expression is written out
-  pub writes_none : Expression → Bool
-  writes_none (node op children) = not (is_written_out true op (tree_count children)) && all_write_none children
+-- Whether a node over so many children is written out by several operators, where horizontals are. Its rule may then be
+-- broken before a child is looked at that has no type.
+abbrev pub is_chain : Op → ℕ → Bool
+is_chain op count = is_written_out true op count && nat_lt 2 count
 
-  pub all_write_none : Trees Op → Bool
-  all_write_none no_more = true
-  all_write_none (more child rest) = writes_none child && all_write_none rest
+abbrev mutual
+  -- whether no horizontal in an expression is
+  pub writes_no_chain : Expression → Bool
+  writes_no_chain (node op children) = not (is_chain op (tree_count children)) && all_write_no_chain children
+
+  pub all_write_no_chain : Trees Op → Bool
+  all_write_no_chain no_more = true
+  all_write_no_chain (more child rest) = writes_no_chain child && all_write_no_chain rest
 
 -- A node stands for the front of a chain over the operands: with those that are left behind it, it comes to the whole. There
 -- is none in front of the first.

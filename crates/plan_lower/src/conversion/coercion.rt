@@ -1,5 +1,5 @@
 //! Casts round the operands of what is lowered, by the rule of coercion.
-ghost use Rattle.std.specs.Prelude.{◌≡◌, ◌<◌, ℕ, ◌∷◌, [], map, IfErr, IfOk, OnOk};
+ghost use Rattle.std.specs.Prelude.{◌≡◌, ℕ, map, IfErr, IfOk, OnOk};
 ghost use Rattle.std.specs.List.{AllByRecursion};
 ghost use Rattle.plan_types.specs.Errors.{no_memory};
 ghost use Rattle.plan_types.specs.Schemas.{columns};
@@ -11,32 +11,30 @@ ghost use Rattle.plan_coerce.specs.Coercion.{KeepsBelow};
 ghost use Rattle.plan_coerce.specs.Optimizer.{AreWrittenOut, roots_of};
 
 use plan_arena::aexpr::AExpr;
-use plan_arena::arena::{Arena, Node};
-use plan_arena::expr_ir::ExprIRs;
+use plan_arena::arena::Arena;
+use plan_arena::expr_ir::ExprIR;
 use plan_coerce::coercion_rule::TypeCoercionRule;
 use plan_coerce::stack_opt::ConversionOptimizer;
+use plan_coerce::uncounted::coerce_uncounted;
 use plan_dsl::udfs::Udfs;
-use plan_infer::steps::Steps;
 use plan_infer::type_table::TypeTable;
 use plan_types::error::PlanError;
 use plan_types::schema::Schema;
 use std::alloc::Global;
-use std::marker::Brand;
-use std::sync::ledger::{Blank, Ledger};
 
 /// Puts casts round the operands of each node that the expressions reach, but for those that can be told beforehand.
 pub(crate) fn coerce_all(
-    exprs: &ExprIRs,
+    exprs: &[ExprIR],
     arena: &mut Arena<AExpr>,
     schema: &Schema,
     udfs: &Udfs,
     types: &mut TypeTable,
 ) -> Result<(), PlanError>
     requires right { IsRight (registry udfs.now) (columns schema.now) arena.old types.old }
-    requires known { (start : ℕ) × AllByRecursion (DenotesKnown (registry udfs.now) (columns schema.now) start arena.old) (map (λ e. (named_node e).expression) exprs.now.items.items) }
-    ensures ok { OnOk result ((first : ℕ) → AllByRecursion (DenotesKnown (registry udfs.now) (columns schema.now) first arena.old) (map (λ e. (named_node e).expression) exprs.now.items.items) →
-        AreWrittenOut (registry udfs.now) (columns schema.now) first arena.old arena.new (map (λ e. (named_node e).expression) exprs.now.items.items)) }
-    ensures below { (first : ℕ) → AllByRecursion (DenotesKnown (registry udfs.now) (columns schema.now) first arena.old) (map (λ e. (named_node e).expression) exprs.now.items.items) →
+    requires known { (start : ℕ) × AllByRecursion (DenotesKnown (registry udfs.now) (columns schema.now) start arena.old) (map (λ e. (named_node e).expression) exprs.now) }
+    ensures ok { OnOk result ((first : ℕ) → AllByRecursion (DenotesKnown (registry udfs.now) (columns schema.now) first arena.old) (map (λ e. (named_node e).expression) exprs.now) →
+        AreWrittenOut (registry udfs.now) (columns schema.now) first arena.old arena.new (map (λ e. (named_node e).expression) exprs.now)) }
+    ensures below { (first : ℕ) → AllByRecursion (DenotesKnown (registry udfs.now) (columns schema.now) first arena.old) (map (λ e. (named_node e).expression) exprs.now) →
         KeepsBelow first arena.old arena.new }
     ensures err { IfErr result (λ error. error ≡ no_memory) }
 {
@@ -44,43 +42,13 @@ pub(crate) fn coerce_all(
     coerce_stacked(optimizer, arena, schema, udfs, types)
 }
 
-/// Puts casts round the operands of each node that a root reaches, but for those that can be told beforehand.
-pub(crate) fn coerce_root(
-    root: Node,
-    arena: &mut Arena<AExpr>,
-    schema: &Schema,
-    udfs: &Udfs,
-    types: &mut TypeTable,
-) -> Result<(), PlanError>
-    requires right { IsRight (registry udfs.now) (columns schema.now) arena.old types.old }
-    requires known { (start : ℕ) × AllByRecursion (DenotesKnown (registry udfs.now) (columns schema.now) start arena.old) (root.0 ∷ []) }
-    ensures ok { OnOk result ((first : ℕ) → AllByRecursion (DenotesKnown (registry udfs.now) (columns schema.now) first arena.old) (root.0 ∷ []) →
-        AreWrittenOut (registry udfs.now) (columns schema.now) first arena.old arena.new (root.0 ∷ [])) }
-    ensures below { (first : ℕ) → AllByRecursion (DenotesKnown (registry udfs.now) (columns schema.now) first arena.old) (root.0 ∷ []) →
-        KeepsBelow first arena.old arena.new }
-    ensures err { IfErr result (λ error. error ≡ no_memory) }
-{
-    let optimizer = stacked_root(root, arena.allocator())?;
-    coerce_stacked(optimizer, arena, schema, udfs, types)
-}
-
 // An optimizer on which the expressions' nodes are stacked.
-fn stacked_all(exprs: &ExprIRs, alloc: Global) -> Result<ConversionOptimizer, PlanError>
-    ensures ok { IfOk result (λ optimizer. roots_of optimizer ≡ map (λ e. (named_node e).expression) exprs.now.items.items) }
+fn stacked_all(exprs: &[ExprIR], alloc: Global) -> Result<ConversionOptimizer, PlanError>
+    ensures ok { IfOk result (λ optimizer. roots_of optimizer ≡ map (λ e. (named_node e).expression) exprs.now) }
     ensures err { IfErr result (λ error. error ≡ no_memory) }
 {
     let mut optimizer = ConversionOptimizer::new(alloc);
-    optimizer.fill_roots(exprs.items.as_slice())?;
-    Ok(optimizer)
-}
-
-// One on which a node is.
-fn stacked_root(root: Node, alloc: Global) -> Result<ConversionOptimizer, PlanError>
-    ensures ok { IfOk result (λ optimizer. roots_of optimizer ≡ root.0 ∷ []) }
-    ensures err { IfErr result (λ error. error ≡ no_memory) }
-{
-    let mut optimizer = ConversionOptimizer::new(alloc);
-    optimizer.push_root_alone(root)?;
+    optimizer.fill_roots(exprs)?;
     Ok(optimizer)
 }
 
@@ -100,45 +68,13 @@ fn coerce_stacked(
         KeepsBelow first arena.old arena.new }
     ensures err { IfErr result (λ error. error ≡ no_memory) }
 {
-    let typings = Blank::new(1);
-    let steps = Blank::new(1);
-    coerce_by::<Brand, Brand>(optimizer, arena, schema, udfs, types, typings, steps)
-}
-
-// Puts casts round the operands of what the stacked roots reach, with ledgers of its own.
-fn coerce_by<M: Ledger, L: Ledger>(
-    optimizer: ConversionOptimizer,
-    arena: &mut Arena<AExpr>,
-    schema: &Schema,
-    udfs: &Udfs,
-    types: &mut TypeTable,
-    typings: Blank,
-    steps: Blank,
-) -> Result<(), PlanError>
-    requires name { typings.name ≡ M.name }
-    requires parts { typings.parts ≡ M.parts }
-    requires some { 0 < typings.parts }
-    requires steps_name { steps.name ≡ L.name }
-    requires steps_parts { steps.parts ≡ L.parts }
-    requires some_steps { 0 < steps.parts }
-    requires right { IsRight (registry udfs.now) (columns schema.now) arena.old types.old }
-    requires known { (start : ℕ) × AllByRecursion (DenotesKnown (registry udfs.now) (columns schema.now) start arena.old) (roots_of optimizer) }
-    ensures ok { OnOk result ((first : ℕ) → AllByRecursion (DenotesKnown (registry udfs.now) (columns schema.now) first arena.old) (roots_of optimizer) →
-        AreWrittenOut (registry udfs.now) (columns schema.now) first arena.old arena.new (roots_of optimizer)) }
-    ensures below { (first : ℕ) → AllByRecursion (DenotesKnown (registry udfs.now) (columns schema.now) first arena.old) (roots_of optimizer) →
-        KeepsBelow first arena.old arena.new }
-    ensures err { IfErr result (λ error. error ≡ no_memory) }
-{
     let mut optimizer = optimizer;
-    let mut typings = Steps::<M>::new(typings);
-    let mut steps = Steps::<L>::new(steps);
-    optimizer.coerce_expressions(
+    coerce_uncounted(
+        &mut optimizer,
         &TypeCoercionRule,
         arena,
         schema,
         udfs,
         types,
-        &mut typings,
-        &mut steps,
     )
 }

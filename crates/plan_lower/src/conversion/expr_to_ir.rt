@@ -6,7 +6,7 @@ ghost use Rattle.plan_types.specs.Errors.{IsMemoryOr, no_memory};
 ghost use Rattle.plan_dsl.specs.Aliases.{all_pruned, chained, pruned, spelled};
 ghost use Rattle.plan_dsl.specs.Copies.{has_several};
 ghost use Rattle.plan_dsl.specs.Expressions.{order_trees, plain_tree, plain_trees, tree_of, trees_of, way_of};
-ghost use Rattle.plan_dsl.specs.Literals.{literal_op, settled, settled_op};
+ghost use Rattle.plan_dsl.specs.Literals.{settled};
 ghost use Rattle.plan_dsl.specs.Names.{alias_label, label_of};
 ghost use Rattle.plan_dsl.specs.Ops.{Expression, FunctionOp};
 ghost use Rattle.plan_dsl.specs.Sources.{is_plain, unwritten};
@@ -236,7 +236,7 @@ fn settle_own(expr: &mut Expr)
     ensures plain { is_plain (tree_of expr.new) ≡ is_plain (tree_of expr.old) }
 {
     match expr {
-        Expr::Literal(value) => settle_literal(value),
+        Expr::Literal(value) => value.settle(),
         _ => {}
     }
 }
@@ -250,22 +250,6 @@ pub(crate) fn settle(expr: &mut Expr)
     match expr {
         Expr::Alias(expr, _) => settle(expr),
         _ => settle_own(expr),
-    }
-}
-
-fn settle_literal(value: &mut LiteralValue)
-    ensures { literal_op value.new ≡ settled_op (literal_op value.old) }
-{
-    let LiteralValue::Int(number) = value else {
-        return;
-    };
-    let number = *number;
-    let Some(alone) = materialize_dyn_int(number) else {
-        return;
-    };
-    match LiteralValue::of_number(&alone, number) {
-        Some(typed) => *value = typed,
-        None => unreachable!(),
     }
 }
 

@@ -142,7 +142,7 @@ fn aggregate_coerced(
 {
     let projection = project(aggs, schema, arena, udfs, ErrorKind::Duplicate, types)?;
     let whole = with_aggregates(keys, &projection.expr, types, arena.allocator())?;
-    coerce_all(&projection.expr, arena, schema, udfs, types)?;
+    coerce_all(projection.expr.items.as_slice(), arena, schema, udfs, types)?;
     Ok(Projection {
         expr: projection.expr,
         schema: whole,

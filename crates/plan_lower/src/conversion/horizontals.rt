@@ -1,15 +1,13 @@
 //! Horizontals over few operands, which are written out.
-ghost use Rattle.std.specs.Prelude.{◌≡◌, ◌≤◌, ℕ, [], length, map, false, true, IfOk, IfErr, MatchOption, Some, slice_get};
-ghost use Rattle.std.specs.List.{list_all};
+ghost use Rattle.std.specs.Prelude.{◌≡◌, ◌≤◌, ℕ, [], length, false, true, IfOk, IfErr, MatchOption, Some, slice_get};
 ghost use Rattle.plan_types.specs.Errors.{no_memory};
 ghost use Rattle.plan_dsl.specs.Aliases.{chained, is_written_out};
-ghost use Rattle.plan_dsl.specs.Expressions.{order_trees, plain_tree, plain_trees};
+ghost use Rattle.plan_dsl.specs.Expressions.{plain_tree};
 ghost use Rattle.plan_dsl.specs.Ops.{Op, Expression, FunctionOp};
-ghost use Rattle.plan_dsl.specs.Sources.{unwritten};
-ghost use Rattle.plan_dsl.specs.Trees.{Trees, no_more, more, tree_count};
+ghost use Rattle.plan_dsl.specs.Trees.{Trees, no_more, more, top_op, tree_count};
 ghost use Rattle.plan_arena.specs.Denotation.{Denotes};
 ghost use Rattle.plan_arena.specs.Items.{Grows, HoldsFrom};
-ghost use Rattle.plan_lower.specs.Horizontals.{InChain, IsNamedAlone, IsNamedAs, IsWrittenBy, called, writes_none};
+ghost use Rattle.plan_lower.specs.Horizontals.{InChain, IsNamedAlone, IsNamedAs, IsWrittenBy, called, is_chain, writes_no_chain};
 
 use plan_arena::aexpr::AExpr;
 use plan_arena::arena::{Arena, Node};
@@ -17,7 +15,7 @@ use plan_dsl::expr::{Expr, Exprs};
 use plan_dsl::function_expr::FunctionExpr;
 use plan_dsl::literal::LiteralValue;
 use plan_dsl::operator::Operator;
-use plan_dsl::sort_options::SortOptions;
+use plan_expand::walks::{count_of, operand_at, plan_operands};
 use plan_types::dtype::{CastOptions, DataType};
 use plan_types::error::PlanError;
 
@@ -122,86 +120,39 @@ pub(crate) fn first_written<'a>(function: &FunctionExpr, input: &'a Exprs) -> Op
     }
 }
 
-/// Whether no horizontal in an expression is written out.
-#[cycle(writes_none)]
-pub(crate) fn writes_none(expr: &Expr) -> bool
-    ensures { result ≡ writes_none (plain_tree expr.now) }
+/// Whether no horizontal in an expression is written out by several operators. Then it is refused as with horizontals as
+/// nodes.
+#[cycle(writes_no_chain)]
+pub(crate) fn writes_no_chain(expr: &Expr) -> bool
+    ensures { result ≡ writes_no_chain (plain_tree expr.now) }
 {
-    match expr {
-        Expr::BinaryExpr { left, right, .. } => writes_none(left) && writes_none(right),
-        Expr::Cast { expr, .. } | Expr::Sort { expr, .. } => writes_none(expr),
-        Expr::Slice {
-            input,
-            offset,
-            length,
-        } => writes_none(input) && writes_none(offset) && writes_none(length),
-        Expr::Explode(input) => writes_none(input),
-        Expr::Gather { expr, idx, .. } => writes_none(expr) && writes_none(idx),
-        Expr::Filter { input, by } => writes_none(input) && writes_none(by),
-        Expr::SortBy { expr, by, .. } => writes_none(expr) && all_write_none(by),
-        Expr::Alias(expr, _) => writes_none(expr),
-        Expr::Agg(aggregate) => writes_none(aggregate.as_ref()),
-        Expr::Window {
-            function,
-            partition_by,
-            order_by,
-            ..
-        } => writes_none(function) && order_writes_none(order_by) && all_write_none(partition_by),
-        Expr::Ternary {
-            predicate,
-            truthy,
-            falsy,
-        } => writes_none(truthy) && writes_none(predicate) && writes_none(falsy),
-        Expr::Function { input, function } => call_writes_none(function, input),
-        Expr::Column(_)
-        | Expr::Literal(_)
-        | Expr::Len
-        | Expr::Columns(_)
-        | Expr::DtypeColumn(_)
-        | Expr::IndexColumn(_)
-        | Expr::Nth(_)
-        | Expr::Wildcard
-        | Expr::Exclude(_, _)
-        | Expr::Selector(_)
-        | Expr::KeepName(_)
-        | Expr::RenameAlias { .. } => true,
-    }
-}
-
-// Whether neither a function over its inputs nor a horizontal in these is written out.
-#[cycle(writes_none)]
-fn call_writes_none(function: &FunctionExpr, input: &Exprs) -> bool
-    ensures { result ≡ writes_none (called function.now input.now) }
-{
-    if !function.is_expanded() {
+    let Some(operands) = plan_operands(expr) else {
         return true;
+    };
+    let count = count_of(operands);
+    if is_chain(expr, count) {
+        return false;
     }
-    match Chaining::of(function, input.items.as_slice().len(), true) {
-        Some(_) => false,
-        None => all_write_none(input),
-    }
-}
-
-// Whether no horizontal in the expressions is written out.
-#[cycle(writes_none)]
-fn all_write_none(exprs: &Exprs) -> bool
-    ensures { result ≡ list_all writes_none (plain_trees exprs.now) }
-{
-    for expr in exprs.items.as_slice() {
-        if !writes_none(expr) {
+    for place in 0..count {
+        let Some(operand) = operand_at(operands, place) else {
+            return true;
+        };
+        if !writes_no_chain(operand) {
             return false;
         }
     }
     true
 }
 
-// Whether no horizontal is written out in what orders the groups of a window, if anything does.
-#[cycle(writes_none)]
-fn order_writes_none(order: &Option<(Box<Expr>, SortOptions)>) -> bool
-    ensures { result ≡ list_all writes_none (map unwritten (order_trees order.now)) }
+// Whether an expression over so many operands is written out by several operators.
+fn is_chain(expr: &Expr, count: usize) -> bool
+    ensures { result ≡ is_chain (top_op (plain_tree expr.now)) count }
 {
-    match order {
-        None => true,
-        Some((expr, _)) => writes_none(expr),
+    match expr {
+        Expr::Function { function, .. } => match Chaining::of(function, count, true) {
+            Some(_) => 2 < count,
+            None => false,
+        },
+        _ => false,
     }
 }

@@ -9,7 +9,7 @@ ghost use Rattle.plan_infer.specs.KeptTypes.{IsRight};
 ghost use Rattle.plan_lower.specs.Nodes.{KeepsExpressions};
 ghost use Rattle.plan_lower.specs.Predicates.{HasExpandedPredicate, HasPredicate, IsPredicateRefusal, IsUnfiltered};
 
-use crate::conversion::coercion::coerce_root;
+use crate::conversion::coercion::coerce_all;
 use crate::conversion::projection::add_typed;
 use plan_arena::aexpr::AExpr;
 use plan_arena::arena::Arena;
@@ -21,6 +21,7 @@ use plan_infer::type_table::TypeTable;
 use plan_types::dtype::DataType;
 use plan_types::error::{ErrorKind, PlanError};
 use plan_types::schema::Schema;
+use std::slice;
 
 /// Expands a predicate over the schema, adds its nodes, types them over a frame of the schema, asks that it is of the
 /// type of truth values, and puts casts round operands.
@@ -78,7 +79,7 @@ fn lower_typed(
         drop(expr_ir);
         return Err(PlanError::at_top(ErrorKind::InvalidOperation));
     }
-    match coerce_root(expr_ir.node(), arena, schema, udfs, types) {
+    match coerce_all(slice::from_ref(&expr_ir), arena, schema, udfs, types) {
         Ok(()) => Ok(expr_ir),
         Err(error) => {
             drop(expr_ir);

@@ -23,7 +23,7 @@ ghost use Rattle.plan_lower.specs.Projection.{Projects, AddsOutput, IsOutputRefu
 
 use crate::conversion::coercion::coerce_all;
 use crate::conversion::expr_to_ir::{Pruning, add_nodes, alias_name, settle};
-use crate::conversion::horizontals::writes_none;
+use crate::conversion::horizontals::writes_no_chain;
 use plan_arena::aexpr::AExpr;
 use plan_arena::arena::{Arena, Node};
 use plan_arena::expr_ir::{ExprIR, ExprIRs, OutputName};
@@ -129,7 +129,7 @@ fn project_coerced(
     ensures err { IfErr result (IsProjectionRefusal (registry udfs.now) (columns schema.now) twice (plain_trees exprs)) }
 {
     let projection = project(exprs, schema, arena, udfs, twice, types)?;
-    match coerce_all(&projection.expr, arena, schema, udfs, types) {
+    match coerce_all(projection.expr.items.as_slice(), arena, schema, udfs, types) {
         Ok(()) => Ok(projection),
         Err(error) => {
             drop(projection);
@@ -287,7 +287,7 @@ fn add_inferred(
     ensures extends { OnOk result (Extends types.old types.new) }
     ensures err { IfErr result (IsRefusal (typing (registry udfs.now) (columns schema.now) (core (plain_tree expr)))) }
 {
-    if writes_none(&expr) {
+    if writes_no_chain(&expr) {
         return add_pruned(expr, true, schema, arena, udfs, types);
     }
     match expr.try_clone(arena.allocator()) {

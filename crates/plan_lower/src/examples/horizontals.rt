@@ -10,6 +10,7 @@ ghost use Rattle.plan_dsl.specs.declared.function_expr.FunctionExpr.TheVariants.
 ghost use Rattle.plan_dsl.specs.declared.literal.LiteralValue.TheVariants.{Boolean as TruthLiteral};
 ghost use Rattle.plan_dsl.specs.declared.operator.Operator.TheVariants.{LogicalAnd, LogicalOr};
 ghost use Rattle.plan_dsl.specs.Aliases.{pruned, spelled};
+ghost use Rattle.plan_dsl.specs.Ops.{FunctionOp};
 ghost use Rattle.plan_dsl.specs.Samples.{Gives, alias, binary, call};
 ghost use Rattle.plan_dsl.specs.Sources.{written};
 ghost use Rattle.plan_dsl.specs.Trees.{no_more, more};
@@ -17,10 +18,11 @@ ghost use Rattle.plan_arena.specs.Denotation.{Denotes};
 ghost use Rattle.plan_arena.specs.Items.{HoldsFrom};
 ghost use Rattle.plan_arena.specs.declared.aexpr.AExpr.{AExpr};
 ghost use Rattle.plan_arena.specs.declared.aexpr.AExpr.TheVariants.{Alias, BinaryExpr, Cast, Column, Explode, Literal};
+ghost use Rattle.plan_arena.specs.declared.expr_ir.OutputName.{OutputName};
 ghost use Rattle.plan_arena.specs.Samples.{node_at};
 ghost use Rattle.plan_infer.specs.Samples.{int8, one_column, a, b, c, a_items};
 ghost use Rattle.plan_lower.specs.ExpressionFields.{IsFieldRefusal};
-ghost use Rattle.plan_lower.specs.Horizontals.{InChain, IsWrittenBy, writes_none};
+ghost use Rattle.plan_lower.specs.Horizontals.{InChain, IsNamedAlone, IsNamedAs, IsNamedUnder, IsWrittenBy, is_chain, writes_no_chain};
 ghost use Rattle.plan_lower.specs.Predicates.{IsPredicateRefusal};
 ghost use Rattle.plan_lower.specs.Projection.{IsOutputRefusal};
 ghost use Rattle.plan_lower.specs.Samples.{keep, truths};
@@ -59,11 +61,23 @@ pub fn chains_so_far()
     ensures none_behind_the_first { ¬ (InChain LogicalAnd 0 a_items (more a (more b no_more)) (more b no_more) None) }
 {}
 
-/// Whether no horizontal in an expression is written out.
-pub fn expressions_that_write_none()
-    ensures { Gives writes_none (
-        (a, true) ∷ (call IsNull (a ∷ []), true) ∷ (call AllHorizontal [], false) ∷ (call AnyHorizontal (a ∷ []), false) ∷ (binary LogicalAnd a (call AllHorizontal (a ∷ b ∷ [])), false) ∷
-        (call AllHorizontal (replicate 128 a), true) ∷ (call AllHorizontal (call AnyHorizontal (b ∷ c ∷ []) ∷ replicate 127 a), false) ∷ []) }
+/// Horizontals that are written out by several operators, and expressions without such.
+pub fn expressions_that_write_no_chain()
+    ensures ops { (is_chain (FunctionOp AllHorizontal []) 2 ≡ false) × (is_chain (FunctionOp AllHorizontal []) 3 ≡ true) × (is_chain (FunctionOp AnyHorizontal []) 127 ≡ true) × (is_chain (FunctionOp AnyHorizontal []) 128 ≡ false) × (is_chain (FunctionOp IsNull []) 3 ≡ false) }
+    ensures expressions { Gives writes_no_chain (
+        (a, true) ∷ (call IsNull (a ∷ []), true) ∷ (call AllHorizontal [], true) ∷ (call AnyHorizontal (a ∷ []), true) ∷ (call AnyHorizontal (a ∷ b ∷ []), true) ∷ (call AllHorizontal (a ∷ b ∷ c ∷ []), false) ∷
+        (binary LogicalAnd a (call AllHorizontal (a ∷ b ∷ c ∷ [])), false) ∷ (call AllHorizontal (replicate 128 a), true) ∷ (call AllHorizontal (call AnyHorizontal (a ∷ b ∷ c ∷ []) ∷ replicate 127 a), false) ∷ []) }
+{}
+
+/// Expressions that have the name that they have without aliases, those that an alias names, and those that have another's.
+pub fn names_without_aliases()
+    ensures alone { IsNamedAlone a × IsNamedAlone (call AllHorizontal (a ∷ b ∷ [])) × IsNamedAlone (call IsNull (alias "x" a ∷ [])) }
+    ensures not_alone { ¬ (IsNamedAlone (alias "x" a)) }
+    ensures not_written_out { ¬ (IsNamedAlone (call AllHorizontal (alias "x" a ∷ b ∷ []))) }
+    ensures under { IsNamedUnder (Some (OutputName.Alias (codes "x"))) (alias "x" a) × IsNamedUnder (Some (OutputName.Alias (codes "x"))) (call AllHorizontal (alias "x" a ∷ b ∷ [])) × IsNamedUnder None a }
+    ensures not_under { ¬ (IsNamedUnder (Some (OutputName.Alias (codes "z"))) (alias "x" a)) }
+    ensures first { IsNamedAs (call AllHorizontal (alias "x" a ∷ b ∷ [])) (alias "x" a) }
+    ensures not_second { ¬ (IsNamedAs (call AllHorizontal (alias "x" a ∷ b ∷ [])) b) }
 {}
 
 /// A horizontal is refused as its operands are, wherever the one stands that is, and else for one of another type than

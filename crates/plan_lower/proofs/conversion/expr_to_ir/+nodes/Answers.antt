@@ -1,5 +1,6 @@
 use Rattle.std.proofs.Common.{◌≡◌, List, [], ◌∷◌, ◌++◌, true, false, arith, length, map, IfOk, refl, subst, sym, ap, ◌∙◌}
 use Rattle.std.specs.List.{AllByRecursion}
+use Rattle.std.proofs.lemmas.Bool.{not-false}
 use Rattle.std.proofs.lemmas.List.{map-append}
 use Rattle.plan_dsl.specs.Sources.{is_plain, unwritten}
 use Rattle.std.specs.Vec.Iter.{into_iter_items}
@@ -18,7 +19,6 @@ use Rattle.plan_lower.specs.Nodes.{IsItemOf, over_inputs}
 use Rattle.plan_arena.proofs.ItemLemmas.{any_node, grows_then, length-grown, tree_grown}
 use Rattle.plan_lower.proofs.HorizontalLemmas.{chain_end, chain_next, named_under, operands_counted, plain_function, pruned_counted, written_chained}
 use Rattle.plan_lower.proofs.NodeLemmas.{Adding, adding_start, adding_step, both_plain, each_plain, item_denotes, nothing_added, over_added, over_both, over_listed, pruned_alias, pruned_item, rest_plain, second_plain, several_kinds, third_plain, unwritten_both, unwritten_listed}
-use Rattle.plan_lower.proofs.ProjectionLemmas.{not_false}
 use Rattle.plan_lower.proofs.RecordingLemmas.{function_over, name_recorded}
 use Rattle.plan_lower.proofs.conversion.expr_to_ir.+nodes.Goals as goal
 
@@ -29,7 +29,7 @@ add_rarer-returns-in_ok-node-in-Alias-clause-denotes t c =
     let tree = pruned c.args.pruning.keep c.args.pruning.write (plain_tree c.into_inner.result) in
     let item : IsItemOf (length c.args.arena.now) c.add_nodes.new.arena (node (AliasOp c.in-Alias.name) (more tree no_more)) (Alias c.in_ok-below-in-Alias.below c.in-Alias.name) = record { operands = more tree no_more; is = refl; denote = (below.denotes, tt) } in
     let added = item_denotes _ c.add_nodes.new.arena _ _ _ top.node.0 (length-grown c.args.arena.now c.add_nodes.new.arena below.grows) item top.ensures.ok top.ensures.node in
-    let kept = subst (λ keep. Denotes (HoldsFrom (length c.args.arena.now) c.add.new.self) top.node.0 (prune_node keep (AliasOp c.in-Alias.name) (more tree no_more))) (sym (not_false c.args.pruning.keep c.if-not-pruning.false)) added in
+    let kept = subst (λ keep. Denotes (HoldsFrom (length c.args.arena.now) c.add.new.self) top.node.0 (prune_node keep (AliasOp c.in-Alias.name) (more tree no_more))) (sym (not-false c.args.pruning.keep c.if-not-pruning.false)) added in
     let whole = subst (Denotes (HoldsFrom (length c.args.arena.now) c.add.new.self) top.node.0) (pruned_alias c.args.pruning.keep c.args.pruning.write c.in-Alias.name (plain_tree c.into_inner.result)) kept in
     rw (c.in-Alias.is, ← c.into_inner.ensures) whole
 

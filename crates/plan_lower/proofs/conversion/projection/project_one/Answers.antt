@@ -2,16 +2,11 @@ use Rattle.std.proofs.Common.{◌≡◌, true, is_some, sym, ap, ◌∙◌, subs
 use Rattle.plan_types.specs.Schemas.{columns, type_at}
 use Rattle.plan_dsl.specs.Names.{Label}
 use Rattle.plan_lower.specs.Projection.{repeated}
-use Rattle.plan_types.specs.Types.{ty}
 use Rattle.plan_types.proofs.ResultLemmas.{passed_on}
 use Rattle.plan_dsl.specs.Expressions.{plain_tree}
 use Rattle.plan_dsl.specs.Registry.{registry}
 use Rattle.plan_arena.specs.Items.{named_node}
-use Rattle.plan_arena.proofs.OperandNameLemmas.{plan_names}
-use Rattle.plan_bounds.proofs.WideLemmas.{plan_wide}
-use Rattle.plan_lower.proofs.ProjectionLemmas.{refused_output, adds_output}
-use Rattle.plan_infer.proofs.TypingLemmas.{AllHaveType}
-use Rattle.plan_infer.proofs.TableLemmas.{kept_type, type_of}
+use Rattle.plan_lower.proofs.ProjectionLemmas.{added_output, adds_output, refused_output}
 use Rattle.plan_lower.proofs.conversion.projection.project_one.Goals as goal
 
 pub returns-in_err-expr_ir-clause-err : goal.returns-in_err-expr_ir-clause-err
@@ -20,11 +15,11 @@ returns-in_err-expr_ir-clause-err c =
 
 pub returns-clause-ok : goal.returns-clause-ok
 returns-clause-ok c =
-    let typed : AllHaveType c.add_typed.new.arena (registry c.args.udfs.now) (columns c.args.schema.now) c.node.result.0 (ty c.in_ok-dtype.dtype) = subst (AllHaveType c.add_typed.new.arena (registry c.args.udfs.now) (columns c.args.schema.now) c.node.result.0) (sym c.in_ok-dtype.ensures.ok) (kept_type (registry c.args.udfs.now) (columns c.args.schema.now) c.add_typed.new.arena c.add_typed.new.types c.in_ok-expr_ir.ensures.right c.node.result.0 _ (type_of c.add_typed.new.types c.node.result.0 c.get.result.now c.get.ensures)) in
+    let is = added_output c.add_typed.new.types c.args.expr _ _ c.get.result.now c.in_ok-expr_ir.ensures.right c.in_ok-expr_ir.ensures.denotes c.node.ensures c.get.ensures in
     let before = c.in_ok-before.ensures in
     let absent = sym before.before ∙ c.if-before.false in
     let named = c.in_ok-name.ensures.ok ∙ c.output_name.ensures in
-    adds_output (registry c.args.udfs.now) (columns c.args.schema.now) _ c.add_typed.new.arena (plain_tree c.args.expr) (named_node c.in_ok-expr_ir.expr_ir) c.node.result.0 (columns c.args.output.now) (columns c.put.new.self) _ _ _ c.in_ok-expr_ir.ensures.name c.in_ok-expr_ir.ensures.denotes (plan_names c.args.expr) (plan_wide c.args.expr) c.node.ensures typed absent named named before.ok
+    adds_output (plain_tree c.args.expr) (named_node c.in_ok-expr_ir.expr_ir) _ (columns c.args.output.now) (columns c.put.new.self) _ _ _ c.in_ok-expr_ir.ensures.name is absent named named c.in_ok-dtype.ensures.ok before.ok
 
 pub returns-then-before-clause-err : goal.returns-then-before-clause-err
 returns-then-before-clause-err c =
