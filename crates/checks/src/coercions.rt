@@ -20,11 +20,11 @@ use plan_coerce::coercion_rule::TypeCoercionRule;
 use plan_coerce::rule::OptimizationRule;
 use plan_coerce::stack_opt::ConversionOptimizer;
 use plan_coerce::type_check::TypeCheckRule;
+use plan_coerce::uncounted::coerce_uncounted;
 use plan_dsl::expr::{Expr, Exprs};
 use plan_dsl::literal::LiteralValue;
 use plan_dsl::sort_options::SortMultipleOptions;
 use plan_dsl::udfs::Udfs;
-use plan_infer::steps::Steps;
 use plan_infer::type_table::{Inferred, TypeTable};
 use plan_lower::conversion::expr_to_ir::to_aexpr;
 use plan_types::dtype::DataType;
@@ -32,9 +32,7 @@ use plan_types::error::{ErrorKind, PlanError};
 use plan_types::schema::Schema;
 use plan_types::text::PlSmallStr;
 use std::alloc::Global;
-use std::marker::Brand;
 use std::process::Abort;
-use std::sync::ledger::{Blank, Ledger};
 
 /// What expressions are typed over.
 #[derive(Drop)]
@@ -116,36 +114,7 @@ fn coerce<R: OptimizationRule>(
     ensures finite { StaysFinite arena.old arena.new }
     ensures right { IsRight (registry scope.now.udfs) (columns scope.now.schema) arena.new types.new }
 {
-    let (typings, steps) = (Blank::new(1), Blank::new(1));
-    coerce_by::<R, Brand, Brand>(rule, optimizer, arena, scope, types, typings, steps)
-}
-
-// The rule goes over what the stacked roots reach, with ledgers of its own.
-fn coerce_by<R: OptimizationRule, M: Ledger, L: Ledger>(
-    rule: &R,
-    optimizer: &mut ConversionOptimizer,
-    arena: &mut Arena<AExpr>,
-    scope: &Scope,
-    types: &mut TypeTable,
-    typings: Blank,
-    steps: Blank,
-) -> Result<(), PlanError>
-    requires name { typings.name ≡ M.name }
-    requires parts { typings.parts ≡ M.parts }
-    requires some { 0 < typings.parts }
-    requires steps_name { steps.name ≡ L.name }
-    requires steps_parts { steps.parts ≡ L.parts }
-    requires some_steps { 0 < steps.parts }
-    requires trees { AreTrees arena.old (roots_of optimizer.old) }
-    requires right { IsRight (registry scope.now.udfs) (columns scope.now.schema) arena.old types.old }
-    ensures idle { roots_of optimizer.new ≡ [] }
-    ensures finite { StaysFinite arena.old arena.new }
-    ensures right { IsRight (registry scope.now.udfs) (columns scope.now.schema) arena.new types.new }
-{
-    let mut typings = Steps::<M>::new(typings);
-    let mut steps = Steps::<L>::new(steps);
-    let (schema, udfs) = (&scope.schema, &scope.udfs);
-    optimizer.coerce_expressions(rule, arena, schema, udfs, types, &mut typings, &mut steps)
+    coerce_uncounted(optimizer, rule, arena, &scope.schema, &scope.udfs, types)
 }
 
 // How many nodes of some sorts a root reaches.
