@@ -12,13 +12,13 @@ use Rattle.plan_types.specs.declared.error.ErrorKind.{ErrorKind}
 use Rattle.plan_types.specs.declared.error.ErrorKind.TheVariants.{ColumnNotFound}
 use Rattle.plan_types.proofs.SchemaLemmas.{distinct_from_test, test_from_distinct}
 use Rattle.plan_dsl.specs.Registry.{Registry}
-use Rattle.plan_dsl.specs.Plans.{SimpleProjectionKind, simple_projection_op}
+use Rattle.plan_dsl.specs.Plans.{SimpleProjectionWork, simple_projection_op}
 use Rattle.plan_dsl.specs.Refusals.{then_ok, lists_joined}
 use Rattle.plan_dsl.specs.Sources.{Source}
 use Rattle.plan_dsl.specs.Markers.{once, selector_names, names_of_selectors}
 use Rattle.plan_dsl.specs.Drops.{have_names, columns_but, left_but, drop_leaves}
 use Rattle.plan_dsl.specs.PlanRules.{stands_in, plan_rule}
-use Rattle.plan_dsl.specs.Resolving.{resolved_kind}
+use Rattle.plan_dsl.specs.Resolving.{over_expanded, resolved_kind}
 use Rattle.plan_dsl.specs.Laws.{DropsHaveSchemas}
 use Rattle.plan_dsl.proofs.MarkerLemmas.{absent_kept, distinct_kept}
 use Rattle.plan_dsl.proofs.ExpansionLemmas.{lists_told}
@@ -34,7 +34,7 @@ absent_told : (columns : Columns) (absent : Bool) (kinds : List ErrorKind) → c
 absent_told columns true kinds h = let same : ColumnNotFound ∷ [] ≡ kinds = cc in (ColumnNotFound, subst (λ l. Contains l ColumnNotFound) same (Contains-push [] ColumnNotFound))
 absent_told columns false kinds h = absurd cc
 
-names_told : (schema : Columns) (selectors : List Source) (kinds : List ErrorKind) → names_of_selectors schema selectors ≡ Err kinds → (told : ErrorKind) × Contains kinds told
+pub names_told : (schema : Columns) (selectors : List Source) (kinds : List ErrorKind) → names_of_selectors schema selectors ≡ Err kinds → (told : ErrorKind) × Contains kinds told
 names_told schema selectors kinds h =
     then_either_told (lists_joined (selector_names [] schema) selectors) (λ names. Ok (once names)) kinds (lists_told (selector_names [] schema) selectors) (λ names e. absurd cc) h
 
@@ -82,5 +82,5 @@ pub drops_have_schemas : DropsHaveSchemas
 drops_have_schemas registry selectors strict schema own distinct left =
     let found = then_left schema own strict (names_of_selectors schema selectors) left in
     let projected = some_left registry schema (λ column. not (is_among column.0 found.0)) distinct in
-    ap (λ r. plan_rule registry (record { kind = resolved_kind (then_ok r (λ columns. Ok (SimpleProjectionKind columns))); recorded = None }) (Some schema ∷ [])) left
+    ap (λ r. plan_rule registry (record { kind = resolved_kind (over_expanded (then_ok r (λ columns. Ok (SimpleProjectionWork columns))) []); recorded = None }) (Some schema ∷ [])) left
     ∙ subst (λ columns. plan_rule registry (simple_projection_op columns None) (Some schema ∷ []) ≡ Some columns) (sym found.1) projected

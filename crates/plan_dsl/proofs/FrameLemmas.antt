@@ -4,33 +4,36 @@ use Rattle.std.specs.List.{AllByRecursion, flat_map, list_all}
 use Rattle.std.specs.Option.{option_map, option_map_or}
 use Rattle.std.proofs.lemmas.Bool.{or_parts}
 use Rattle.std.proofs.lemmas.Cmp.{nat_list_eq_equiv}
+use Rattle.std.proofs.lemmas.List.{map-append}
 use Rattle.plan_types.specs.Types.{Ty, same_type}
 use Rattle.plan_types.specs.TypeLaws.{same_type_exact}
 use Rattle.plan_types.specs.Schemas.{Name, Columns, same_name, type_at, with_column, IsNewName, HasDistinctNames, is_among, repeats, names_of}
 use Rattle.plan_types.specs.Values.{Val, fits, all_fit}
-use Rattle.plan_types.specs.Outcomes.{Outcome, Done, Fault, Stuck, then_do, Meets}
+use Rattle.plan_types.specs.Outcomes.{Outcome, Done, Fault, then_do, Meets}
 use Rattle.plan_types.specs.Frames.{Row, Frame, RowFits, HasNoRowsWithoutColumns, IsFrame, IsFrameOf, value_in, empty_frame, row_numbers}
 use Rattle.plan_types.specs.declared.error.ErrorKind.{ErrorKind}
-use Rattle.plan_types.proofs.SchemaLemmas.{IsNewName-head, IsNewName-tail, test_from_distinct}
+use Rattle.plan_types.specs.declared.error.ErrorKind.TheVariants.{Duplicate}
+use Rattle.plan_types.proofs.SchemaLemmas.{IsNewName-head, IsNewName-tail, distinct_from_test, test_from_distinct}
 use Rattle.plan_types.proofs.ValueLemmas.{meets_then, value_in_fits}
 use Rattle.plan_dsl.specs.Registry.{Registry}
 use Rattle.plan_dsl.specs.Trees.{Trees, node, no_more, more, fold_all}
 use Rattle.plan_dsl.specs.Ops.{Expression}
-use Rattle.plan_dsl.specs.Plans.{Named, PlanKind, ScanKind, SelectKind, HStackKind, GroupByKind, FilterKind, SimpleProjectionKind, PlanOp, Plan, Scan, select_op, group_by_op, filter_op, own_scans, scans_in}
+use Rattle.plan_dsl.specs.Plans.{Named, Work, SelectWork, HStackWork, GroupByWork, FilterWork, SimpleProjectionWork, SliceWork, SortWork, DistinctWork, PassWork, PlanKind, ScanKind, OverKind, PlanOp, Plan, Scan, expressions_of, own_scans, scans_in}
 use Rattle.plan_dsl.specs.Literals.{settled}
 use Rattle.plan_dsl.specs.Typing.{Typed, typing}
-use Rattle.plan_dsl.specs.Meaning.{meaning}
 use Rattle.plan_dsl.specs.Kernels.{stretched, at_length, for_rows, in_front, key_rows}
 use Rattle.plan_dsl.specs.Picks.{is_true, where_true}
-use Rattle.plan_dsl.specs.PlanKernels.{Series, series_typed, all_series, shared_length, rows_of, series_columns, framed, selected, table_frame, scanned, frame_by, plan_kernel, row_with, rows_with, frame_with_column, stacked, hstacked_on, hstacked, kept_rows, filtered_on, filtered, row_in, projected_on, projected}
+use Rattle.plan_dsl.specs.PlanKernels.{Evaluated, Evaluation, Series, series_typed, series_on, all_series, shared_length, rows_of, series_columns, framed, selected_on, table_frame, scanned, gives_nothing, work_frame, over_frame, frame_by, plan_kernel, row_with, rows_with, frame_with_column, stacked, hstacked_on, kept_rows, filtered_on, row_in, projected_on}
 use Rattle.plan_dsl.specs.Groups.{Group, groups}
-use Rattle.plan_dsl.specs.Grouping.{value_typed, group_value, group_values, group_rows, columns_in_groups, group_frame, grouped_by, grouped_on, grouped}
-use Rattle.plan_dsl.specs.PlanRules.{broken_kinds, scan_kinds, key_kinds, typed_in_groups, type_in_groups, aggregate_columns, columns_beside, stands_in, projection_kinds, column_before, columns_of, with_columns, schema_by, plan_rule, schema_of, schemas_of, IsWellFormed, AllWellFormed}
+use Rattle.plan_dsl.specs.Grouping.{value_typed, group_value, group_values, group_rows, column_before, columns_in_groups, group_frame, grouped_by, grouped_on}
+use Rattle.plan_dsl.specs.PlanRules.{broken_kinds, expression_kinds, scan_kinds, key_kinds, name_kinds, names_in, type_kinds, typed_kinds, list_type_kinds, all_type_kinds, work_kinds, type_in_groups, stands_in, projection_kinds, TypedOutput, output_before, typed_outputs, list_before, typed_lists, columns_of, aggregate_columns, with_columns, work_schema, schema_by, plan_rule, schema_of, schemas_of, IsWellFormed, AllWellFormed}
 use Rattle.plan_dsl.specs.PlanMeaning.{by_meaning, source_meaning, HasTable, HasTables, FitsPlan, MeetsWhere}
 use Rattle.plan_dsl.specs.Laws.{AreOf, MeaningHasSchema, OwnColumnsGiveTheFrame}
+use Rattle.plan_dsl.specs.WorkLaws.{IsGiven, AreGiven, ListsAreGiven, output_names, kinds_of_types, KeepsFrames, NothingHasNoColumns}
 use Rattle.plan_dsl.proofs.FitLemmas.{meaning_has_type}
 use Rattle.plan_dsl.proofs.GroupingLemmas.{groups_have, rows_joined_fit, group_value_fits}
-use Rattle.plan_dsl.proofs.RuleLemmas.{unbroken_kinds, unbroken_schema, scan_distinct, selected_distinct, GroupColumns, group_columns, grouped_distinct, grouped_has_key, projection_stands, projection_distinct, predicate_typed, well_formed_schema}
+use Rattle.plan_dsl.proofs.RowWorkLemmas.{sliced_frame, sorted_frame, distinct_frame}
+use Rattle.plan_dsl.proofs.RuleLemmas.{unbroken_kinds, unbroken_schema, no_front, no_tail, not_repeated, scan_distinct, projection_stands, projection_distinct, well_formed_schema}
 
 -- each input has a schema, and gives a frame of it unless there is a fault
 abbrev pub AllMeet : List (Option Columns) → List (Outcome Frame) → Type 0
@@ -130,34 +133,40 @@ framed_meets schema (s ∷ ss) distinct some h =
       }
     ]
 
+-- a fitting column of an output
+record IsSeriesOf (o : TypedOutput) (s : Series) : Type 0 where
+  name : s.name ≡ o.name
+  type : s.type ≡ o.typed.type
+  fitting : FitsSeries s
+
+-- one more column
+one_more : (rest : Columns) (o : TypedOutput) (s : Series) (ss : List Series) → IsSeriesOf o s → AreSeriesOf rest ss → AreSeriesOf ((o.name, o.typed.type) ∷ rest) (s ∷ ss)
+one_more rest o s ss h k = record {
+  columns = (λ i. (h.name i, h.type i) ∷ k.columns i);
+  fitting = (h.fitting, k.fitting);
+}
+
 absurd_none : {A : Type 0} (x : A) → ¬ (None ≡ Some x)
 absurd_none x h = cc
-
-not_empty : (c : Name × Ty) (cs schema : Columns) → Some (c ∷ cs) ≡ Some schema → ¬ (schema ≡ [])
-not_empty c cs schema h e = cc
 
 some_same : {A : Type 0} (x y : A) → Some x ≡ Some y → x ≡ y
 some_same x y h = cc
 
--- one more column
-one_more : (schema rest : Columns) (name : Name) (type : Ty) (values : List Val) (ss : List Series) → (name, type) ∷ rest ≡ schema → IsTrue (all_fit values type) → AreSeriesOf rest ss → AreSeriesOf schema (record { name = name; type = type; values = values } ∷ ss)
-one_more schema rest name type values ss e h k = record {
-  columns = ap (λ l. (name, type) ∷ l) k.columns ∙ e;
-  fitting = (h, k.fitting);
-}
+-- what an expression gives is a column of its type
+series_given : (rows : List ℕ) (o : TypedOutput) (e : Evaluated) → IsGiven o e → Meets (IsSeriesOf o) (series_on rows e)
+series_given rows o e h =
+    let there = meets_then (AreOf o.typed) (IsSeriesOf o) (e.gives rows) (λ values. Done (record { name = e.name; type = o.typed.type; values = values })) (h.gives rows) (λ values k. record { name = h.name; type = refl; fitting = k.fitting }) in
+    subst (λ t. Meets (IsSeriesOf o) (series_typed e.name t (e.gives rows))) (sym h.typing) there
 
-one_meets : (name : Name) (typed : Typed) (rest schema : Columns) (gives : Outcome (List Val)) (later : Outcome (List Series)) → (name, typed.type) ∷ rest ≡ schema → Meets (AreOf typed) gives → Meets (AreSeriesOf rest) later → Meets (AreSeriesOf schema) (then_do (series_typed name (Ok typed) gives) (λ s. then_do later (λ ss. Done (s ∷ ss))))
-one_meets name typed rest schema (Done values) (Done ss) e h k = one_more schema rest name typed.type values ss e h.fitting k
-one_meets name typed rest schema (Done values) Fault e h k = tt
-one_meets name typed rest schema (Done values) Stuck e h k = absurd k
-one_meets name typed rest schema Fault later e h k = tt
-one_meets name typed rest schema Stuck later e h k = absurd h
-
--- where an expression has a column, there are columns
-has_column : (name : Name) (t : Result Typed ErrorKind) (rest : Option Columns) (schema : Columns) → column_before name t rest ≡ Some schema → ¬ (schema ≡ [])
-has_column name (Err kind) rest schema h e = absurd_none schema h
-has_column name (Ok typed) None schema h e = absurd_none schema h
-has_column name (Ok typed) (Some columns) schema h e = not_empty _ _ schema h e
+-- so are those of expressions one by one
+series_meet : (rows : List ℕ) (os : List TypedOutput) (es : List Evaluated) → AreGiven os es → Meets (AreSeriesOf (columns_of os)) (all_series rows es)
+series_meet rows [] [] h = record { columns = refl; fitting = tt }
+series_meet rows (o ∷ os) (e ∷ es) h =
+    let Are : List Series → Type 0 = AreSeriesOf (columns_of (o ∷ os)) in
+    meets_then (IsSeriesOf o) Are (series_on rows e) (λ s. then_do (all_series rows es) (λ ss. Done (s ∷ ss))) (series_given rows o e h.0) (λ s is.
+    meets_then (AreSeriesOf (columns_of os)) Are (all_series rows es) (λ ss. Done (s ∷ ss)) (series_meet rows os es h.1) (λ ss are. one_more (columns_of os) o s ss is are))
+series_meet rows [] (e ∷ es) h = absurd h
+series_meet rows (o ∷ os) [] h = absurd h
 
 no_rows : (own : Columns) → HasNoRowsWithoutColumns own []
 no_rows [] = refl
@@ -229,10 +238,6 @@ stacked_meets schema (s ∷ ss) frame h k =
     let count = length frame.rows in
     let put = column_in_frame schema frame s.name s.type (stretched count s.values) h (all_fit-stretched count s.values s.type k.0) in
     elim (length s.values == count || length s.values == 1) as (λ b. Meets (IsFrameOf (with_columns schema (series_columns (s ∷ ss)))) (then_do (cond b (Done (stretched count s.values)) Fault) (λ each. stacked ss (frame_with_column frame s.name s.type each)))) [ true ↦ stacked_meets (with_column schema s.name s.type) ss (frame_with_column frame s.name s.type (stretched count s.values)) put k.1 | false ↦ tt ]
-
-mapped_some : {A B : Type 0} (f : A → B) (o : Option A) (y : B) → option_map f o ≡ Some y → (x : A) × (o ≡ Some x) × (f x ≡ y)
-mapped_some f None y h = absurd cc
-mapped_some f (Some x) y h = (x, refl, some_same (f x) y h)
 
 -- rows that are kept still fit
 kept_fit : (columns : Columns) (values : List Val) (rows : List Row) → AllByRecursion (RowFits columns) rows → AllByRecursion (RowFits columns) (where_true values rows)
@@ -312,12 +317,12 @@ own_rows cs (row ∷ rows) distinct h =
 abbrev frame_of : Columns → List Row → Frame
 frame_of cs rows = record { schema = cs; rows = rows }
 
-own_columns : (cs : Columns) (rows : List Row) → IsFrame (frame_of cs rows) → projected cs (Done (frame_of cs rows)) ≡ Done (frame_of cs rows)
-own_columns [] rows h = ap (λ each. Done (frame_of [] each)) (sym h.bare)
-own_columns (c ∷ cs) rows h = ap (λ each. Done (frame_of (c ∷ cs) each)) (own_rows (c ∷ cs) rows (test_from_distinct (c ∷ cs) h.distinct) h.fitting)
+own_columns : (evaluate : Evaluation) (cs : Columns) (rows : List Row) → IsFrame (frame_of cs rows) → over_frame evaluate (SimpleProjectionWork cs) [] (Done (frame_of cs rows)) ≡ Done (frame_of cs rows)
+own_columns evaluate [] rows h = ap (λ each. Done (frame_of [] each)) (sym h.bare)
+own_columns evaluate (c ∷ cs) rows h = ap (λ each. Done (frame_of (c ∷ cs) each)) (own_rows (c ∷ cs) rows (test_from_distinct (c ∷ cs) h.distinct) h.fitting)
 
 pub own_columns_give_the_frame : OwnColumnsGiveTheFrame
-own_columns_give_the_frame frame h = own_columns frame.schema frame.rows h
+own_columns_give_the_frame evaluate frame h = own_columns evaluate frame.schema frame.rows h
 
 projected_frame : (under : Columns) (c : Name × Ty) (cs : Columns) (frame : Frame) → projection_kinds under (c ∷ cs) ≡ [] → IsFrameOf under frame → IsFrameOf (c ∷ cs) (projected_on (c ∷ cs) frame)
 projected_frame under c cs frame none h =
@@ -326,12 +331,6 @@ projected_frame under c cs frame none h =
       schema_is = refl;
       frame_is = record { distinct = projection_distinct under (c ∷ cs) none; fitting = rows_in_fit frame.schema (c ∷ cs) frame.rows stand h.frame_is.fitting; bare = tt };
     }
-
--- a simple projection of columns that break no rule
-projection_meets : (own under schema : Columns) (input : Outcome Frame) → Meets (IsFrameOf under) input → projection_kinds under own ≡ [] → own ≡ schema → Meets (IsFrameOf schema) (projected own input)
-projection_meets [] under schema input h none same = without_columns schema same
-projection_meets (c ∷ cs) under schema input h none same =
-    subst (λ s. Meets (IsFrameOf s) (projected (c ∷ cs) input)) same (meets_then (IsFrameOf under) (IsFrameOf (c ∷ cs)) input (λ frame. Done (projected_on (c ∷ cs) frame)) h (λ frame k. projected_frame under c cs frame none k))
 
 -- columns of keys make rows that fit, or a length is a fault
 for_rows_fit : (count : ℕ) (values : List Val) (type : Ty) → IsTrue (all_fit values type) → Meets (λ column. IsTrue (all_fit column type)) (for_rows count values)
@@ -354,123 +353,257 @@ some_front : (cs ds : Columns) → ¬ (cs ≡ []) → ¬ (cs ++ ds ≡ [])
 some_front [] ds some e = some refl
 some_front (c ∷ cs) ds some e = cc
 
--- a value of an aggregate's type in groups in front of others
-one_value_meets : (name : Name) (typed : Typed) (rest columns : Columns) (gives : Outcome (List Val)) (later : Outcome Row) → (name, type_in_groups typed) ∷ rest ≡ columns → Meets (AreOf typed) gives → Meets (RowFits rest) later → Meets (RowFits columns) (then_do (value_typed (Ok typed) gives) (λ value. then_do later (λ values. Done (value ∷ values))))
-one_value_meets name typed rest columns gives later e h k =
-    let Fits : Val → Type 0 = λ value. IsTrue (fits value (type_in_groups typed)) in
-    let first = meets_then (AreOf typed) Fits gives (group_value typed.many) h (λ values of. group_value_fits typed values of) in
-    meets_then Fits (RowFits columns) (value_typed (Ok typed) gives) (λ value. then_do later (λ values. Done (value ∷ values))) first (λ value f.
-    meets_then (RowFits rest) (RowFits columns) later (λ values. Done (value ∷ values)) k (λ values g. subst (λ cs. RowFits cs (value ∷ values)) e (f, g)))
+-- aggregates have the same columns in groups by what they are on a frame
+columns_given : (os : List TypedOutput) (es : List Evaluated) → AreGiven os es → columns_in_groups es ≡ Some (aggregate_columns os)
+columns_given [] [] h = refl
+columns_given (o ∷ os) (e ∷ es) h =
+    let name = h.0.name in
+    let typing = h.0.typing in
+    let later = columns_given os es h.1 in
+    λ i. column_before (name i) (typing i) (later i)
+columns_given [] (e ∷ es) h = absurd h
+columns_given (o ∷ os) [] h = absurd h
 
-module _ (registry : Registry) (frame : Frame) (is_frame : IsFrame frame) where
-  -- aggregates have the same columns in groups by their meaning
-  columns_by_meaning : (aggs : List (Named Expression)) → columns_in_groups (map (by_meaning registry frame) aggs) ≡ aggregate_columns registry frame.schema aggs
-  columns_by_meaning [] = refl
-  columns_by_meaning (o ∷ os) = ap (column_before o.label.name (typed_in_groups (typing registry frame.schema (settled o.expression)))) (columns_by_meaning os)
+-- what an aggregate gives on a group's rows is a value of its type in groups
+value_given : (rows : List ℕ) (o : TypedOutput) (e : Evaluated) → IsGiven o e → Meets (λ value. IsTrue (fits value (type_in_groups o.typed))) (value_typed e.typing (e.gives rows))
+value_given rows o e h =
+    let Fits : Val → Type 0 = λ value. IsTrue (fits value (type_in_groups o.typed)) in
+    let there = meets_then (AreOf o.typed) Fits (e.gives rows) (group_value o.typed.many) (h.gives rows) (λ values of. group_value_fits o.typed values of) in
+    subst (λ t. Meets Fits (value_typed t (e.gives rows))) (sym h.typing) there
 
-  -- aggregates that have columns give values of them on a group's rows
-  group_values_meet : (aggs : List (Named Expression)) (columns : Columns) → aggregate_columns registry frame.schema aggs ≡ Some columns → (rows : List ℕ) → Meets (RowFits columns) (group_values (map (by_meaning registry frame) aggs) rows)
-  group_values_meet [] columns h rows = subst (λ cs. RowFits cs []) (some_same [] columns h) tt
-  group_values_meet (o ∷ os) columns h rows =
-      let later = aggregate_columns registry frame.schema os in
-      let gives = meaning registry frame (settled o.expression) rows in
-      let rest = group_values (map (by_meaning registry frame) os) rows in
-      elim (typing registry frame.schema (settled o.expression)) as (λ t. typing registry frame.schema (settled o.expression) ≡ t → column_before o.label.name (typed_in_groups t) later ≡ Some columns → Meets (RowFits columns) (then_do (value_typed t gives) (λ value. then_do rest (λ values. Done (value ∷ values))))) [ Err kind ↦ λ e h. absurd (absurd_none columns h) | Ok typed ↦ λ e h. elim later as (λ l. later ≡ l → column_before o.label.name (typed_in_groups (Ok typed)) l ≡ Some columns → Meets (RowFits columns) (then_do (value_typed (Ok typed) gives) (λ value. then_do rest (λ values. Done (value ∷ values))))) [ None ↦ λ el h. absurd (absurd_none columns h) | Some others ↦ λ el h. one_value_meets o.label.name typed others columns gives rest (some_same _ _ h) (meaning_has_type registry frame is_frame (settled o.expression) typed e rows) (group_values_meet os others el rows) ] refl h ] refl h
+-- aggregates give values of their columns
+group_values_meet : (rows : List ℕ) (os : List TypedOutput) (es : List Evaluated) → AreGiven os es → Meets (RowFits (aggregate_columns os)) (group_values es rows)
+group_values_meet rows [] [] h = tt
+group_values_meet rows (o ∷ os) (e ∷ es) h =
+    let Fits : Val → Type 0 = λ value. IsTrue (fits value (type_in_groups o.typed)) in
+    let Fit : Row → Type 0 = RowFits (aggregate_columns (o ∷ os)) in
+    meets_then Fits Fit (value_typed e.typing (e.gives rows)) (λ value. then_do (group_values es rows) (λ values. Done (value ∷ values))) (value_given rows o e h.0) (λ value f.
+    meets_then (RowFits (aggregate_columns os)) Fit (group_values es rows) (λ values. Done (value ∷ values)) (group_values_meet rows os es h.1) (λ values g. (f, g)))
+group_values_meet rows [] (e ∷ es) h = absurd h
+group_values_meet rows (o ∷ os) [] h = absurd h
 
+module _ (os : List TypedOutput) (es : List Evaluated) (given : AreGiven os es) (keys : Columns) where
   -- and groups of fitting keys make rows that fit
-  group_rows_meet : (aggs : List (Named Expression)) (keys columns : Columns) (found : List (Group ℕ)) → aggregate_columns registry frame.schema aggs ≡ Some columns → AllByRecursion (λ group. RowFits keys group.key) found → Meets (AllByRecursion (RowFits (keys ++ columns))) (group_rows (map (by_meaning registry frame) aggs) found)
-  group_rows_meet aggs keys columns [] e h = tt
-  group_rows_meet aggs keys columns (group ∷ others) e h =
-      let evaluated = map (by_meaning registry frame) aggs in
-      let later = group_rows evaluated others in
+  group_rows_meet : (found : List (Group ℕ)) → AllByRecursion (λ group. RowFits keys group.key) found → Meets (AllByRecursion (RowFits (keys ++ aggregate_columns os))) (group_rows es found)
+  group_rows_meet [] h = tt
+  group_rows_meet (group ∷ others) h =
+      let columns = aggregate_columns os in
+      let later = group_rows es others in
       let Fit : List Row → Type 0 = AllByRecursion (RowFits (keys ++ columns)) in
-      meets_then (RowFits columns) Fit (group_values evaluated group.items) (λ values. then_do later (λ rows. Done ((group.key ++ values) ∷ rows))) (group_values_meet aggs columns e group.items) (λ values k.
-      meets_then Fit Fit later (λ rows. Done ((group.key ++ values) ∷ rows)) (group_rows_meet aggs keys columns others e h.1) (λ rows fit. (rows_joined_fit keys columns group.key values h.0 k, fit)))
+      meets_then (RowFits columns) Fit (group_values es group.items) (λ values. then_do later (λ rows. Done ((group.key ++ values) ∷ rows))) (group_values_meet group.items os es given) (λ values k.
+      meets_then Fit Fit later (λ rows. Done ((group.key ++ values) ∷ rows)) (group_rows_meet others h.1) (λ rows fit. (rows_joined_fit keys columns group.key values h.0 k, fit)))
 
   -- so the frame of groups is one of these columns
-  group_frame_meets : (aggs : List (Named Expression)) (keys columns : Columns) (found : List (Group ℕ)) → aggregate_columns registry frame.schema aggs ≡ Some columns → HasDistinctNames (keys ++ columns) → ¬ (keys ≡ []) → AllByRecursion (λ group. RowFits keys group.key) found → Meets (IsFrameOf (keys ++ columns)) (group_frame keys (columns_in_groups (map (by_meaning registry frame) aggs)) (map (by_meaning registry frame) aggs) found)
-  group_frame_meets aggs keys columns found e distinct some h =
-      let evaluated = map (by_meaning registry frame) aggs in
+  group_frame_meets : (found : List (Group ℕ)) → HasDistinctNames (keys ++ aggregate_columns os) → ¬ (keys ≡ []) → AllByRecursion (λ group. RowFits keys group.key) found → Meets (IsFrameOf (keys ++ aggregate_columns os)) (group_frame keys (columns_in_groups es) es found)
+  group_frame_meets found distinct some h =
+      let columns = aggregate_columns os in
       let Is : Outcome Frame → Type 0 = Meets (IsFrameOf (keys ++ columns)) in
-      let there = columns_by_meaning aggs ∙ e in
-      subst (λ o. Is (group_frame keys o evaluated found)) (sym there) (
-      meets_then (AllByRecursion (RowFits (keys ++ columns))) (IsFrameOf (keys ++ columns)) (group_rows evaluated found) (λ rows. Done (record { schema = keys ++ columns; rows = rows })) (group_rows_meet aggs keys columns found e h) (λ rows fit. record {
+      subst (λ o. Is (group_frame keys o es found)) (sym (columns_given os es given)) (
+      meets_then (AllByRecursion (RowFits (keys ++ columns))) (IsFrameOf (keys ++ columns)) (group_rows es found) (λ rows. Done (record { schema = keys ++ columns; rows = rows })) (group_rows_meet found h) (λ rows fit. record {
         schema_is = refl;
         frame_is = record { distinct = distinct; fitting = fit; bare = has_columns (keys ++ columns) rows (some_front keys columns some) };
       }))
 
-  -- of the groups that columns of keys make
-  grouped_by_meets : (aggs : List (Named Expression)) (keys columns : Columns) (ss : List Series) → AreSeriesOf keys ss → aggregate_columns registry frame.schema aggs ≡ Some columns → HasDistinctNames (keys ++ columns) → ¬ (keys ≡ []) → Meets (IsFrameOf (keys ++ columns)) (grouped_by ss (map (by_meaning registry frame) aggs) frame)
-  grouped_by_meets aggs keys columns ss h e distinct some =
-      let evaluated = map (by_meaning registry frame) aggs in
+  -- of the groups that columns of keys make of a frame's rows
+  grouped_by_meets : (frame : Frame) (ss : List Series) → AreSeriesOf keys ss → HasDistinctNames (keys ++ aggregate_columns os) → ¬ (keys ≡ []) → Meets (IsFrameOf (keys ++ aggregate_columns os)) (grouped_by ss es frame)
+  grouped_by_meets frame ss h distinct some =
+      let columns = aggregate_columns os in
       let rows_of_keys = subst (λ cs. Meets (AllByRecursion (RowFits cs)) (key_rows (length frame.rows) (map (λ s. s.values) ss))) h.columns (key_rows_fit (length frame.rows) ss h.fitting) in
-      let made = meets_then (AllByRecursion (RowFits keys)) (IsFrameOf (keys ++ columns)) (key_rows (length frame.rows) (map (λ s. s.values) ss)) (λ rows. group_frame keys (columns_in_groups evaluated) evaluated (groups rows (row_numbers frame))) rows_of_keys (λ rows fit. group_frame_meets aggs keys columns (groups rows (row_numbers frame)) e distinct some (groups_have (RowFits keys) rows (row_numbers frame) fit)) in
-      subst (λ cs. Meets (IsFrameOf (keys ++ columns)) (then_do (key_rows (length frame.rows) (map (λ s. s.values) ss)) (λ rows. group_frame cs (columns_in_groups evaluated) evaluated (groups rows (row_numbers frame))))) (sym h.columns) made
+      let made = meets_then (AllByRecursion (RowFits keys)) (IsFrameOf (keys ++ columns)) (key_rows (length frame.rows) (map (λ s. s.values) ss)) (λ rows. group_frame keys (columns_in_groups es) es (groups rows (row_numbers frame))) rows_of_keys (λ rows fit. group_frame_meets (groups rows (row_numbers frame)) distinct some (groups_have (RowFits keys) rows (row_numbers frame) fit)) in
+      subst (λ cs. Meets (IsFrameOf (keys ++ columns)) (then_do (key_rows (length frame.rows) (map (λ s. s.values) ss)) (λ rows. group_frame cs (columns_in_groups es) es (groups rows (row_numbers frame))))) (sym h.columns) made
 
-module _ (registry : Registry) (frame : Frame) (is_frame : IsFrame frame) (rows : List ℕ) where
-  -- expressions that have columns give columns of them
-  series_meet : (outputs : List (Named Expression)) (schema : Columns) → columns_of registry frame.schema outputs ≡ Some schema → Meets (AreSeriesOf schema) (all_series rows (map (by_meaning registry frame) outputs))
-  series_meet [] schema h = let e : [] ≡ schema = cc in record { columns = e; fitting = tt }
-  series_meet (o ∷ os) schema h =
-      let later = columns_of registry frame.schema os in
-      let gives = meaning registry frame (settled o.expression) rows in
-      let rest = all_series rows (map (by_meaning registry frame) os) in
-      elim (typing registry frame.schema (settled o.expression)) as (λ t. typing registry frame.schema (settled o.expression) ≡ t → column_before o.label.name t later ≡ Some schema → Meets (AreSeriesOf schema) (then_do (series_typed o.label.name t gives) (λ s. then_do rest (λ ss. Done (s ∷ ss))))) [ Err kind ↦ λ e h. absurd (absurd_none schema h) | Ok typed ↦ λ e h. elim later as (λ l. later ≡ l → column_before o.label.name (Ok typed) l ≡ Some schema → Meets (AreSeriesOf schema) (then_do (series_typed o.label.name (Ok typed) gives) (λ s. then_do rest (λ ss. Done (s ∷ ss))))) [ None ↦ λ el h. absurd (absurd_none schema h) | Some columns ↦ λ el h. one_meets o.label.name typed columns schema gives rest (some_same _ _ h) (meaning_has_type registry frame is_frame (settled o.expression) typed e rows) (series_meet os columns el) ] refl h ] refl h
+-- ---- works, one by one
+
+column_names : (os : List TypedOutput) → names_of (columns_of os) ≡ output_names os
+column_names [] = refl
+column_names (o ∷ os) = ap (λ l. o.name ∷ l) (column_names os)
+
+aggregate_names : (os : List TypedOutput) → names_of (aggregate_columns os) ≡ output_names os
+aggregate_names [] = refl
+aggregate_names (o ∷ os) = ap (λ l. o.name ∷ l) (aggregate_names os)
+
+columns_distinct : (kind : ErrorKind) (os : List TypedOutput) → name_kinds kind (output_names os) ≡ [] → HasDistinctNames (columns_of os)
+columns_distinct kind os none = distinct_from_test (columns_of os) (ap repeats (column_names os) ∙ not_repeated (repeats (output_names os)) kind none)
+
+some_column : (o : TypedOutput) (os : List TypedOutput) → ¬ (columns_of (o ∷ os) ≡ [])
+some_column o os e = cc
+
+select_keeps : (schema : Columns) (frame : Frame) (os : List TypedOutput) (es : List Evaluated) → AreGiven os es → name_kinds Duplicate (output_names os) ≡ [] → gives_nothing SelectWork (output_names os ∷ []) ≡ false → Meets (IsFrameOf (columns_of os)) (selected_on es (row_numbers frame))
+select_keeps schema frame [] es given none some = absurd cc
+select_keeps schema frame (o ∷ os) es given none some =
+    meets_then (AreSeriesOf (columns_of (o ∷ os))) (IsFrameOf (columns_of (o ∷ os))) (all_series (row_numbers frame) es) framed (series_meet (row_numbers frame) (o ∷ os) es given) (λ ss. framed_meets (columns_of (o ∷ os)) ss (columns_distinct Duplicate (o ∷ os) none) (some_column o os))
+
+hstack_keeps : (schema : Columns) (frame : Frame) (os : List TypedOutput) (es : List Evaluated) → IsFrameOf schema frame → AreGiven os es → Meets (IsFrameOf (with_columns schema (columns_of os))) (hstacked_on es frame)
+hstack_keeps schema frame os es h given =
+    let Is : Frame → Type 0 = IsFrameOf (with_columns schema (columns_of os)) in
+    meets_then (AreSeriesOf (columns_of os)) Is (all_series (row_numbers frame) es) (λ ss. stacked ss frame) (series_meet (row_numbers frame) os es given) (λ ss k. subst (λ c. Meets (IsFrameOf (with_columns schema c)) (stacked ss frame)) k.columns (stacked_meets schema ss frame h k.fitting))
+
+groups_distinct : (keys aggs : List TypedOutput) → name_kinds Duplicate (output_names keys ++ output_names aggs) ≡ [] → HasDistinctNames (columns_of keys ++ aggregate_columns aggs)
+groups_distinct keys aggs none =
+    let front = column_names keys in
+    let behind = aggregate_names aggs in
+    let names : names_of (columns_of keys ++ aggregate_columns aggs) ≡ output_names keys ++ output_names aggs = map-append (λ (c : Name × Ty). c.0) (columns_of keys) (aggregate_columns aggs) ∙ (λ i. front i ++ behind i) in
+    distinct_from_test (columns_of keys ++ aggregate_columns aggs) (ap repeats names ∙ not_repeated (repeats (output_names keys ++ output_names aggs)) Duplicate none)
+
+group_keeps : (frame : Frame) (keys aggs : List TypedOutput) (es others : List Evaluated) → AreGiven keys es → AreGiven aggs others → key_kinds (output_names keys) ++ name_kinds Duplicate (output_names keys ++ output_names aggs) ≡ [] → Meets (IsFrameOf (columns_of keys ++ aggregate_columns aggs)) (grouped_on es others frame)
+group_keeps frame [] aggs es others h k none = absurd cc
+group_keeps frame (key ∷ keys) aggs es others h k none =
+    let own = columns_of (key ∷ keys) in
+    let distinct = groups_distinct (key ∷ keys) aggs none in
+    meets_then (AreSeriesOf own) (IsFrameOf (own ++ aggregate_columns aggs)) (all_series (row_numbers frame) es) (λ columns. grouped_by columns others frame) (series_meet (row_numbers frame) (key ∷ keys) es h) (λ ss s. grouped_by_meets aggs others k own frame ss s distinct (some_column key keys))
+
+filter_keeps : (schema : Columns) (frame : Frame) (o : TypedOutput) (e : Evaluated) → IsFrameOf schema frame → IsGiven o e → Meets (IsFrameOf schema) (filtered_on e frame)
+filter_keeps schema frame o e h given =
+    meets_then (AreOf o.typed) (IsFrameOf schema) (e.gives (row_numbers frame)) (kept_rows frame) (given.gives (row_numbers frame)) (λ values k. kept_meets schema frame values h)
+
+projection_keeps : (schema own : Columns) (frame : Frame) → IsFrameOf schema frame → projection_kinds schema own ≡ [] → gives_nothing (SimpleProjectionWork own) [] ≡ false → IsFrameOf own (projected_on own frame)
+projection_keeps schema [] frame h none some = absurd cc
+projection_keeps schema (c ∷ cs) frame h none some = projected_frame schema c cs frame none h
+
+only_given : (os : List TypedOutput) (answers : List (List Evaluated)) → ListsAreGiven (os ∷ []) answers → (es : List Evaluated) × (answers ≡ es ∷ []) × AreGiven os es
+only_given os (es ∷ []) h = (es, refl, h.0)
+only_given os [] h = absurd h
+only_given os (es ∷ next ∷ rest) h = absurd h.1
+
+two_given : (os us : List TypedOutput) (answers : List (List Evaluated)) → ListsAreGiven (os ∷ us ∷ []) answers → (es : List Evaluated) × (others : List Evaluated) × (answers ≡ es ∷ others ∷ []) × AreGiven os es × AreGiven us others
+two_given os us (es ∷ others ∷ []) h = (es, others, refl, h.0, h.1.0)
+two_given os us [] h = absurd h
+two_given os us (es ∷ []) h = absurd h.1
+two_given os us (es ∷ others ∷ next ∷ rest) h = absurd h.1.1
+
+one_given : (o : TypedOutput) (es : List Evaluated) → AreGiven (o ∷ []) es → (e : Evaluated) × (es ≡ e ∷ []) × IsGiven o e
+one_given o (e ∷ []) h = (e, refl, h.0)
+one_given o [] h = absurd h
+one_given o (e ∷ next ∷ rest) h = absurd h.1
+
+no_given : (answers : List (List Evaluated)) → ListsAreGiven [] answers → answers ≡ []
+no_given [] h = refl
+no_given (es ∷ rest) h = absurd h
+
+-- each work over one input keeps frames: other lists than its own break a rule
+pub works_keep_frames : (work : Work) → KeepsFrames work
+works_keep_frames SelectWork schema frame (os ∷ []) answers h given types none some =
+    let a = only_given os answers given in
+    subst (λ l. Meets (IsFrameOf (columns_of os)) (work_frame SelectWork l frame)) (sym a.1) (select_keeps schema frame os a.0 a.2 none some)
+works_keep_frames HStackWork schema frame (os ∷ []) answers h given types none some =
+    let a = only_given os answers given in
+    subst (λ l. Meets (IsFrameOf (with_columns schema (columns_of os))) (work_frame HStackWork l frame)) (sym a.1) (hstack_keeps schema frame os a.0 h a.2)
+works_keep_frames GroupByWork schema frame (keys ∷ aggs ∷ []) answers h given types none some =
+    let a = two_given keys aggs answers given in
+    subst (λ l. Meets (IsFrameOf (columns_of keys ++ aggregate_columns aggs)) (work_frame GroupByWork l frame)) (sym a.2) (group_keeps frame keys aggs a.0 a.1 a.3 a.4 none)
+works_keep_frames FilterWork schema frame ((o ∷ []) ∷ []) answers h given types none some =
+    let a = only_given (o ∷ []) answers given in
+    let e = one_given o a.0 a.2 in
+    subst (λ l. Meets (IsFrameOf schema) (work_frame FilterWork l frame)) (sym (a.1 ∙ ap (λ es. es ∷ []) e.1)) (filter_keeps schema frame o e.0 h e.2)
+works_keep_frames (SimpleProjectionWork own) schema frame [] answers h given types none some =
+    subst (λ l. Meets (IsFrameOf own) (work_frame (SimpleProjectionWork own) l frame)) (sym (no_given answers given)) (projection_keeps schema own frame h none some)
+works_keep_frames (SliceWork offset count) schema frame [] answers h given types none some =
+    subst (λ l. Meets (IsFrameOf schema) (work_frame (SliceWork offset count) l frame)) (sym (no_given answers given)) (sliced_frame schema frame offset count h)
+works_keep_frames (SortWork descending nulls_last) schema frame (os ∷ []) answers h given types none some =
+    let a = only_given os answers given in
+    let keys = series_meet (row_numbers frame) os a.0 a.2 in
+    subst (λ l. Meets (IsFrameOf schema) (work_frame (SortWork descending nulls_last) l frame)) (sym a.1) (sorted_frame schema frame descending nulls_last a.0 (AreSeriesOf (columns_of os)) keys h)
+works_keep_frames (DistinctWork keep subset) schema frame [] answers h given types none some =
+    subst (λ l. Meets (IsFrameOf schema) (work_frame (DistinctWork keep subset) l frame)) (sym (no_given answers given)) (distinct_frame schema frame keep subset h)
+works_keep_frames (PassWork passing) schema frame [] answers h given types none some =
+    subst (λ l. Meets (IsFrameOf schema) (work_frame (PassWork passing) l frame)) (sym (no_given answers given)) h
+works_keep_frames work schema frame lists answers h given types none some = absurd cc
+
+pub nothing_has_no_columns : (work : Work) → NothingHasNoColumns work
+nothing_has_no_columns SelectWork schema ([] ∷ []) nothing = refl
+nothing_has_no_columns (SimpleProjectionWork []) schema lists nothing = refl
+nothing_has_no_columns work schema lists nothing = absurd cc
+
+-- ---- typed expressions
+
+before_is : (name : Name) (t : Result Typed ErrorKind) (rest : Option (List TypedOutput)) (outputs : List TypedOutput) → output_before name t rest ≡ Some outputs → (typed : Typed) × (others : List TypedOutput) × (t ≡ Ok typed) × (rest ≡ Some others) × (outputs ≡ record { name = name; typed = typed } ∷ others)
+before_is name (Err kind) rest outputs h = absurd cc
+before_is name (Ok typed) None outputs h = absurd cc
+before_is name (Ok typed) (Some others) outputs h = (typed, others, refl, refl, sym (some_same (record { name = name; typed = typed } ∷ others) outputs h))
+
+lists_before : (first : Option (List TypedOutput)) (rest : Option (List (List TypedOutput))) (outputs : List (List TypedOutput)) → list_before first rest ≡ Some outputs → (own : List TypedOutput) × (others : List (List TypedOutput)) × (first ≡ Some own) × (rest ≡ Some others) × (outputs ≡ own ∷ others)
+lists_before None rest outputs h = absurd cc
+lists_before (Some own) None outputs h = absurd cc
+lists_before (Some own) (Some others) outputs h = (own, others, refl, refl, sym (some_same (own ∷ others) outputs h))
+
+module _ (registry : Registry) (schema : Columns) where
+  -- they have their names, and break what their types do
+  names_typed : (os : List (Named Expression)) (outputs : List TypedOutput) → typed_outputs registry schema os ≡ Some outputs → names_in os ≡ output_names outputs
+  names_typed [] outputs h = ap output_names (some_same [] outputs h)
+  names_typed (o ∷ os) outputs h =
+      let found = before_is o.label.name (typing registry schema (settled o.expression)) (typed_outputs registry schema os) outputs h in
+      ap (λ names. o.label.name ∷ names) (names_typed os found.1 found.3) ∙ sym (ap output_names found.4)
+
+  names_of_lists : (lists : List (List (Named Expression))) (outputs : List (List TypedOutput)) → typed_lists registry schema lists ≡ Some outputs → map names_in lists ≡ map output_names outputs
+  names_of_lists [] outputs h = ap (map output_names) (some_same [] outputs h)
+  names_of_lists (os ∷ lists) outputs h =
+      let found = lists_before (typed_outputs registry schema os) (typed_lists registry schema lists) outputs h in
+      let first = names_typed os found.0 found.2 in
+      let later = names_of_lists lists found.1 found.3 in
+      (λ i. first i ∷ later i) ∙ sym (ap (map output_names) found.4)
+
+  abbrev kinds_typed : Work → List TypedOutput → List ErrorKind
+  kinds_typed work outputs = flat_map (λ output. type_kinds work output.typed) outputs
+
+  types_typed : (work : Work) (os : List (Named Expression)) (outputs : List TypedOutput) → typed_outputs registry schema os ≡ Some outputs → list_type_kinds registry work schema os ≡ kinds_typed work outputs
+  types_typed work [] outputs h = ap (kinds_typed work) (some_same [] outputs h)
+  types_typed work (o ∷ os) outputs h =
+      let found = before_is o.label.name (typing registry schema (settled o.expression)) (typed_outputs registry schema os) outputs h in
+      let first = ap (typed_kinds work) found.2 in
+      let later = types_typed work os found.1 found.3 in
+      (λ i. first i ++ later i) ∙ sym (ap (kinds_typed work) found.4)
+
+  types_of_lists : (work : Work) (lists : List (List (Named Expression))) (outputs : List (List TypedOutput)) → typed_lists registry schema lists ≡ Some outputs → all_type_kinds registry work schema lists ≡ kinds_of_types work outputs
+  types_of_lists work [] outputs h = ap (kinds_of_types work) (some_same [] outputs h)
+  types_of_lists work (os ∷ lists) outputs h =
+      let found = lists_before (typed_outputs registry schema os) (typed_lists registry schema lists) outputs h in
+      let first = types_typed work os found.0 found.2 in
+      let later = types_of_lists work lists found.1 found.3 in
+      (λ i. first i ++ later i) ∙ sym (ap (kinds_of_types work) found.4)
+
+module _ (registry : Registry) (frame : Frame) (is_frame : IsFrame frame) where
+  -- and give on a frame what they are typed as
+  outputs_given : (os : List (Named Expression)) (outputs : List TypedOutput) → typed_outputs registry frame.schema os ≡ Some outputs → AreGiven outputs (map (by_meaning registry frame) os)
+  outputs_given [] outputs h = subst (λ l. AreGiven l []) (some_same [] outputs h) tt
+  outputs_given (o ∷ os) outputs h =
+      let found = before_is o.label.name (typing registry frame.schema (settled o.expression)) (typed_outputs registry frame.schema os) outputs h in
+      let first : IsGiven (record { name = o.label.name; typed = found.0 }) (by_meaning registry frame o) = record { name = refl; typing = found.2; gives = meaning_has_type registry frame is_frame (settled o.expression) found.0 found.2 } in
+      subst (λ l. AreGiven l (map (by_meaning registry frame) (o ∷ os))) (sym found.4) (first, outputs_given os found.1 found.3)
+
+  lists_given : (lists : List (List (Named Expression))) (outputs : List (List TypedOutput)) → typed_lists registry frame.schema lists ≡ Some outputs → ListsAreGiven outputs (map (map (by_meaning registry frame)) lists)
+  lists_given [] outputs h = subst (λ l. ListsAreGiven l []) (some_same [] outputs h) tt
+  lists_given (os ∷ lists) outputs h =
+      let found = lists_before (typed_outputs registry frame.schema os) (typed_lists registry frame.schema lists) outputs h in
+      subst (λ l. ListsAreGiven l (map (map (by_meaning registry frame)) (os ∷ lists))) (sym found.4) (outputs_given os found.0 found.2, lists_given lists found.1 found.3)
+
+-- ---- nodes
+
+mapped_some : {A B : Type 0} (f : A → B) (o : Option A) (y : B) → option_map f o ≡ Some y → (x : A) × (o ≡ Some x) × (f x ≡ y)
+mapped_some f None y h = absurd cc
+mapped_some f (Some x) y h = (x, refl, some_same (f x) y h)
 
 module _ (registry : Registry) where
-  -- a select of expressions that break no rule
-  outputs_meet : (output : Named Expression) (outputs : List (Named Expression)) (recorded : Option Columns) (under schema : Columns) (frame : Frame) → IsFrameOf under frame → broken_kinds registry (select_op (output ∷ outputs) recorded) (Some under ∷ []) ≡ [] → columns_of registry under (output ∷ outputs) ≡ Some schema → Meets (IsFrameOf schema) (then_do (all_series (row_numbers frame) (map (by_meaning registry frame) (output ∷ outputs))) framed)
-  outputs_meet output outputs recorded under schema frame h none columns =
-      let there = subst (λ c. columns_of registry c (output ∷ outputs) ≡ Some schema) (sym h.schema_is) columns in
-      let distinct = selected_distinct registry under (output ∷ outputs) recorded schema none columns in
-      let some = has_column output.label.name (typing registry under (settled output.expression)) (columns_of registry under outputs) schema columns in
-      meets_then (AreSeriesOf schema) (IsFrameOf schema) _ framed (series_meet registry frame h.frame_is (row_numbers frame) (output ∷ outputs) schema there) (λ ss. framed_meets schema ss distinct some)
+  -- a node over one input that breaks no rule gives a frame of the schema that its work makes
+  module _ (work : Work) (lists : List (List (Named Expression))) (under : Columns) (outputs : List (List TypedOutput)) (typed : typed_lists registry under lists ≡ Some outputs) (types : kinds_of_types work outputs ≡ []) (kinds : work_kinds work under (map output_names outputs) ≡ []) where
+    work_meets : (frame : Frame) → IsFrameOf under frame → gives_nothing work (map output_names outputs) ≡ false → Meets (IsFrameOf (work_schema work under outputs)) (work_frame work (map (map (by_meaning registry frame)) lists) frame)
+    work_meets frame h some =
+        let there = subst (λ c. typed_lists registry c lists ≡ Some outputs) (sym h.schema_is) typed in
+        works_keep_frames work under frame outputs (map (map (by_meaning registry frame)) lists) h (lists_given registry frame h.frame_is lists outputs there) types kinds some
 
-  select_meets : (outputs : List (Named Expression)) (recorded : Option Columns) (under schema : Columns) (input : Outcome Frame) → Meets (IsFrameOf under) input → broken_kinds registry (select_op outputs recorded) (Some under ∷ []) ≡ [] → columns_of registry under outputs ≡ Some schema → Meets (IsFrameOf schema) (selected (by_meaning registry) outputs input)
-  select_meets [] recorded under schema input h none columns = without_columns schema (some_same _ _ columns)
-  select_meets (output ∷ outputs) recorded under schema input h none columns =
-      meets_then (IsFrameOf under) (IsFrameOf schema) input _ h (λ frame k. outputs_meet output outputs recorded under schema frame k none columns)
+    over_meets : (input : Outcome Frame) → Meets (IsFrameOf under) input → Meets (IsFrameOf (work_schema work under outputs)) (over_frame (by_meaning registry) work lists input)
+    over_meets input h =
+        let own = work_schema work under outputs in
+        let gives = then_do input (λ frame. work_frame work (map (map (by_meaning registry frame)) lists) frame) in
+        let same = ap (gives_nothing work) (names_of_lists registry under lists outputs typed) in
+        subst (λ b. Meets (IsFrameOf own) (cond b (Done empty_frame) gives)) (sym same) (
+        elim (gives_nothing work (map output_names outputs)) as (λ b. gives_nothing work (map output_names outputs) ≡ b → Meets (IsFrameOf own) (cond b (Done empty_frame) gives)) [ true ↦ λ e. without_columns own (sym (nothing_has_no_columns work under outputs e)) | false ↦ λ e. meets_then (IsFrameOf under) (IsFrameOf own) input _ h (λ frame k. work_meets frame k e) ] refl)
 
-  -- an hstack of expressions that have columns
-  stack_meets : (outputs : List (Named Expression)) (under columns : Columns) (frame : Frame) → IsFrameOf under frame → columns_of registry under outputs ≡ Some columns → Meets (IsFrameOf (with_columns under columns)) (hstacked_on (map (by_meaning registry frame) outputs) frame)
-  stack_meets outputs under columns frame h is =
-      let there = subst (λ c. columns_of registry c outputs ≡ Some columns) (sym h.schema_is) is in
-      meets_then (AreSeriesOf columns) (IsFrameOf (with_columns under columns)) _ (λ ss. stacked ss frame) (series_meet registry frame h.frame_is (row_numbers frame) outputs columns there) (λ ss k. subst (λ c. Meets (IsFrameOf (with_columns under c)) (stacked ss frame)) k.columns (stacked_meets under ss frame h k.fitting))
-
-  hstack_meets : (outputs : List (Named Expression)) (under schema : Columns) (input : Outcome Frame) → Meets (IsFrameOf under) input → option_map (with_columns under) (columns_of registry under outputs) ≡ Some schema → Meets (IsFrameOf schema) (hstacked (by_meaning registry) outputs input)
-  hstack_meets outputs under schema input h is =
-      let found = mapped_some (with_columns under) (columns_of registry under outputs) schema is in
-      subst (λ s. Meets (IsFrameOf s) (hstacked (by_meaning registry) outputs input)) found.2 (meets_then (IsFrameOf under) (IsFrameOf (with_columns under found.0)) input _ h (λ frame k. stack_meets outputs under found.0 frame k found.1))
-
-  -- a group-by that breaks no rule
-  keys_have_columns : (under : Columns) (keys : List (Named Expression)) (columns : Columns) → key_kinds keys ≡ [] → columns_of registry under keys ≡ Some columns → ¬ (columns ≡ [])
-  keys_have_columns under [] columns none h = absurd cc
-  keys_have_columns under (key ∷ keys) columns none h = has_column key.label.name (typing registry under (settled key.expression)) (columns_of registry under keys) columns h
-
-  groups_meet : (keys aggs : List (Named Expression)) (recorded : Option Columns) (under schema : Columns) (found : GroupColumns registry under keys aggs schema) (frame : Frame) → IsFrameOf under frame → broken_kinds registry (group_by_op keys aggs recorded) (Some under ∷ []) ≡ [] → Meets (IsFrameOf schema) (grouped_on (map (by_meaning registry frame) keys) (map (by_meaning registry frame) aggs) frame)
-  groups_meet keys aggs recorded under schema found frame h none =
-      let some = keys_have_columns under keys found.own (grouped_has_key registry under keys aggs recorded none) found.own_are in
-      let distinct = subst HasDistinctNames (sym found.both) (grouped_distinct registry under keys aggs recorded schema none found) in
-      let first = subst (λ c. columns_of registry c keys ≡ Some found.own) (sym h.schema_is) found.own_are in
-      let later = subst (λ c. aggregate_columns registry c aggs ≡ Some found.others) (sym h.schema_is) found.others_are in
-      let evaluated = map (by_meaning registry frame) aggs in
-      subst (λ s. Meets (IsFrameOf s) (grouped_on (map (by_meaning registry frame) keys) evaluated frame)) found.both (
-      meets_then (AreSeriesOf found.own) (IsFrameOf (found.own ++ found.others)) (all_series (row_numbers frame) (map (by_meaning registry frame) keys)) (λ columns. grouped_by columns evaluated frame) (series_meet registry frame h.frame_is (row_numbers frame) keys found.own first) (λ ss k. grouped_by_meets registry frame h.frame_is aggs found.own found.others ss k later distinct some))
-
-  group_by_meets : (keys aggs : List (Named Expression)) (recorded : Option Columns) (under schema : Columns) (input : Outcome Frame) → Meets (IsFrameOf under) input → broken_kinds registry (group_by_op keys aggs recorded) (Some under ∷ []) ≡ [] → columns_beside (columns_of registry under keys) (aggregate_columns registry under aggs) ≡ Some schema → Meets (IsFrameOf schema) (grouped (by_meaning registry) keys aggs input)
-  group_by_meets keys aggs recorded under schema input h none is =
-      meets_then (IsFrameOf under) (IsFrameOf schema) input _ h (λ frame k. groups_meet keys aggs recorded under schema (group_columns registry under keys aggs schema is) frame k none)
-
-  -- a filter by a predicate that breaks no rule
-  predicate_meets : (predicate : Named Expression) (schema : Columns) (frame : Frame) → IsFrameOf schema frame → broken_kinds registry (filter_op predicate) (Some schema ∷ []) ≡ [] → Meets (IsFrameOf schema) (filtered_on (by_meaning registry frame predicate) frame)
-  predicate_meets predicate schema frame h none =
-      let typed = predicate_typed registry schema predicate none in
-      let there = subst (λ c. typing registry c (settled predicate.expression) ≡ Ok typed.0) (sym h.schema_is) typed.1 in
-      meets_then (AreOf typed.0) (IsFrameOf schema) _ (kept_rows frame) (meaning_has_type registry frame h.frame_is (settled predicate.expression) typed.0 there (row_numbers frame)) (λ values k. kept_meets schema frame values h)
-
-  filter_meets : (predicate : Named Expression) (under schema : Columns) (input : Outcome Frame) → Meets (IsFrameOf under) input → broken_kinds registry (filter_op predicate) (Some under ∷ []) ≡ [] → under ≡ schema → Meets (IsFrameOf schema) (filtered (by_meaning registry) predicate input)
-  filter_meets predicate under schema input h none same =
-      subst (λ s. Meets (IsFrameOf s) (filtered (by_meaning registry) predicate input)) same (meets_then (IsFrameOf under) (IsFrameOf under) input _ h (λ frame k. predicate_meets predicate under frame k none))
+  over_node : (work : Work) (lists : List (List (Named Expression))) (under schema : Columns) (input : Outcome Frame) → all_type_kinds registry work under lists ++ work_kinds work under (map names_in lists) ≡ [] → option_map (work_schema work under) (typed_lists registry under lists) ≡ Some schema → Meets (IsFrameOf under) input → Meets (IsFrameOf schema) (over_frame (by_meaning registry) work lists input)
+  over_node work lists under schema input none is h =
+      let found = mapped_some (work_schema work under) (typed_lists registry under lists) schema is in
+      let types = sym (types_of_lists registry under work lists found.0 found.1) ∙ no_front (all_type_kinds registry work under lists) _ none in
+      let kinds = ap (work_kinds work under) (sym (names_of_lists registry under lists found.0 found.1)) ∙ no_tail (all_type_kinds registry work under lists) _ none in
+      subst (λ s. Meets (IsFrameOf s) (over_frame (by_meaning registry) work lists input)) found.2 (over_meets work lists under found.0 found.1 types kinds input h)
 
   -- a scan of columns that break no rule
   scan_meets : (tables : List Frame) (table : Option ℕ) (own schema : Columns) → HasTables tables (own_scans {E = Expression} (ScanKind table own)) → scan_kinds own ≡ [] → own ≡ schema → Meets (IsFrameOf schema) (scanned tables table own)
@@ -480,21 +613,10 @@ module _ (registry : Registry) where
   node_meets : (kind : PlanKind (Named Expression)) (tables : List Frame) (recorded : Option Columns) (inputs : List (Option Columns)) (outcomes : List (Outcome Frame)) (schema : Columns) → HasTables tables (own_scans kind) → broken_kinds registry (record { kind = kind; recorded = recorded }) inputs ≡ [] → schema_by registry kind inputs ≡ Some schema → AllMeet inputs outcomes → Meets (IsFrameOf schema) (frame_by kind tables (by_meaning registry) outcomes)
   node_meets (ScanKind table own) tables recorded [] outcomes schema fits none is k =
       subst (λ os. Meets (IsFrameOf schema) (frame_by (ScanKind table own) tables (by_meaning registry) os)) (sym (no_outcome outcomes k)) (scan_meets tables table own schema fits none (some_same _ _ is))
-  node_meets (SelectKind outputs) tables recorded (Some under ∷ []) outcomes schema fits none is k =
+  node_meets (OverKind work lists) tables recorded (Some under ∷ []) outcomes schema fits none is k =
       let only = only_outcome (Some under) outcomes k in
-      subst (λ os. Meets (IsFrameOf schema) (frame_by (SelectKind outputs) tables (by_meaning registry) os)) (sym only.1) (select_meets outputs recorded under schema only.0 only.2 none is)
-  node_meets (HStackKind outputs) tables recorded (Some under ∷ []) outcomes schema fits none is k =
-      let only = only_outcome (Some under) outcomes k in
-      subst (λ os. Meets (IsFrameOf schema) (frame_by (HStackKind outputs) tables (by_meaning registry) os)) (sym only.1) (hstack_meets outputs under schema only.0 only.2 is)
-  node_meets (GroupByKind keys aggs) tables recorded (Some under ∷ []) outcomes schema fits none is k =
-      let only = only_outcome (Some under) outcomes k in
-      subst (λ os. Meets (IsFrameOf schema) (frame_by (GroupByKind keys aggs) tables (by_meaning registry) os)) (sym only.1) (group_by_meets keys aggs recorded under schema only.0 only.2 none is)
-  node_meets (FilterKind predicate) tables recorded (Some under ∷ []) outcomes schema fits none is k =
-      let only = only_outcome (Some under) outcomes k in
-      subst (λ os. Meets (IsFrameOf schema) (frame_by (FilterKind predicate) tables (by_meaning registry) os)) (sym only.1) (filter_meets predicate under schema only.0 only.2 none (some_same _ _ is))
-  node_meets (SimpleProjectionKind own) tables recorded (Some under ∷ []) outcomes schema fits none is k =
-      let only = only_outcome (Some under) outcomes k in
-      subst (λ os. Meets (IsFrameOf schema) (frame_by (SimpleProjectionKind own) tables (by_meaning registry) os)) (sym only.1) (projection_meets own under schema only.0 only.2 none (some_same _ _ is))
+      let own = no_tail (expression_kinds registry (Some under ∷ []) (expressions_of (OverKind work lists))) _ none in
+      subst (λ os. Meets (IsFrameOf schema) (frame_by (OverKind work lists) tables (by_meaning registry) os)) (sym only.1) (over_node work lists under schema only.0 own is only.2)
   node_meets kind tables recorded inputs outcomes schema fits none is k = absurd (absurd_none schema is)
 
   -- a node that has a schema gives a frame of it, unless there is a fault

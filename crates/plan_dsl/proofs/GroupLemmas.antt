@@ -22,10 +22,10 @@ value_decides x y = (same_value_exact x y, λ e. subst (λ z. same_value x z ≡
 pub same_keys_are_one : SameKeysAreOne
 same_keys_are_one = pointwise_decides value_decides
 
-keys_exact : (x y : Row) → same_keys x y ≡ true → x ≡ y
+pub keys_exact : (x y : Row) → same_keys x y ≡ true → x ≡ y
 keys_exact x y = (same_keys_are_one x y).0
 
-keys_own : (x : Row) → same_keys x x ≡ true
+pub keys_own : (x : Row) → same_keys x x ≡ true
 keys_own x = (same_keys_are_one x x).1 refl
 
 -- keys that differ from a third alike
@@ -38,7 +38,7 @@ turned x y h = elim (same_keys y x) as (λ b. same_keys y x ≡ b → b ≡ fals
 -- ---- keys that are found first
 
 -- whether the key is among these
-abbrev among : List Row → Row → Bool
+abbrev pub among : List Row → Row → Bool
 among keys key = list_any (λ other. same_keys other key) keys
 
 abbrev without : Row → List Row → List Row
@@ -60,7 +60,7 @@ stays_among left key (first ∷ keys) other h =
       | false ↦ λ e h. let later = stays_among left key keys other h in elim (same_keys left first) as (λ b. among (cond (not b) (first ∷ without left keys) (without left keys)) key ≡ true) [ true ↦ later | false ↦ or_right (same_keys first key) _ later ]
     ] refl h
 
-abbrev HaveKeys : {A : Type 0} → List Row → List (Row × A) → Type 0
+abbrev pub HaveKeys : {A : Type 0} → List Row → List (Row × A) → Type 0
 HaveKeys keys rows = AllByRecursion (λ row. among keys row.0 ≡ true) rows
 
 more_keys : {A : Type 0} (key : Row) (keys : List Row) (rows : List (Row × A)) → HaveKeys keys rows → HaveKeys (key ∷ without key keys) rows
@@ -70,7 +70,7 @@ more_keys key keys (row ∷ rows) h =
     (first, more_keys key keys rows h.1)
 
 -- the key of each row is found
-keys_found : {A : Type 0} (keys : List Row) (items : List A) → HaveKeys (firsts same_keys keys) (zip keys items)
+pub keys_found : {A : Type 0} (keys : List Row) (items : List A) → HaveKeys (firsts same_keys keys) (zip keys items)
 keys_found [] items = tt
 keys_found (key ∷ keys) [] = tt
 keys_found (key ∷ keys) (item ∷ items) = (or_left (same_keys key key) _ (keys_own key), more_keys key (firsts same_keys keys) (zip keys items) (keys_found keys items))
@@ -80,12 +80,12 @@ left_out key [] = tt
 left_out key (other ∷ keys) =
     elim (same_keys key other) as (λ b. same_keys key other ≡ b → AllByRecursion (λ other. same_keys key other ≡ false) (cond (not b) (other ∷ without key keys) (without key keys))) [ true ↦ λ e. left_out key keys | false ↦ λ e. (e, left_out key keys) ] refl
 
-apart_kept : (test : Row → Bool) (keys : List Row) → AreApart keys → AreApart (filter test keys)
+pub apart_kept : (test : Row → Bool) (keys : List Row) → AreApart keys → AreApart (filter test keys)
 apart_kept test [] h = tt
 apart_kept test (key ∷ keys) h =
     elim (test key) as (λ b. AreApart (cond b (key ∷ filter test keys) (filter test keys))) [ true ↦ (kept_have (λ other. same_keys key other ≡ false) test keys h.0, apart_kept test keys h.1) | false ↦ apart_kept test keys h.1 ]
 
-firsts_apart : (keys : List Row) → AreApart (firsts same_keys keys)
+pub firsts_apart : (keys : List Row) → AreApart (firsts same_keys keys)
 firsts_apart [] = tt
 firsts_apart (key ∷ keys) = (left_out key (firsts same_keys keys), apart_kept (λ other. not (same_keys key other)) (firsts same_keys keys) (firsts_apart keys))
 
@@ -182,7 +182,7 @@ module _ {A : Type 0} where
       let later = rows_of_groups keys items found in
       λ i. first i ++ later i
 
-  keys_of_groups : (keys : List Row) (items : List A) (found : List Row) → map (λ (group : Group A). group.key) (map (λ key. record { key = key; items = items_beside key keys items }) found) ≡ found
+  pub keys_of_groups : (keys : List Row) (items : List A) (found : List Row) → map (λ (group : Group A). group.key) (map (λ key. record { key = key; items = items_beside key keys items }) found) ≡ found
   keys_of_groups keys items [] = refl
   keys_of_groups keys items (key ∷ found) = ap (λ l. key ∷ l) (keys_of_groups keys items found)
 
@@ -198,7 +198,7 @@ module _ {A : Type 0} where
   all_also_there row rows [] h = tt
   all_also_there row rows (key ∷ keys) h = (also_there key row rows h.0, all_also_there row rows keys h.1)
 
-  all_there : (keys : List Row) (items : List A) → length keys ≡ length items → AllByRecursion (λ key. ¬ (items_beside key keys items ≡ [])) keys
+  pub all_there : (keys : List Row) (items : List A) → length keys ≡ length items → AllByRecursion (λ key. ¬ (items_beside key keys items ≡ [])) keys
   all_there [] items h = tt
   all_there (key ∷ keys) [] h = absurd (omega (arith, h))
   all_there (key ∷ keys) (item ∷ items) h =

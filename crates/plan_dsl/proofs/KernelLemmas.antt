@@ -1,53 +1,44 @@
 -- Plan nodes whose expressions are evaluated in two ways that agree.
-use Rattle.std.proofs.Common.{◌≡◌, List, [], ◌∷◌, length, map, refl, sym, ap, subst}
+use Rattle.std.proofs.Common.{◌≡◌, List, ◌∷◌, map, cond, refl, ap, subst, sym}
 use Rattle.plan_types.specs.Schemas.{Columns}
-use Rattle.plan_types.specs.Outcomes.{Outcome, Done, Fault, Stuck, Meets}
-use Rattle.plan_types.specs.Frames.{Row, Frame, IsFrame, IsFrameOf, row_numbers}
+use Rattle.plan_types.specs.Outcomes.{Outcome, Done, Fault, Stuck, then_do, Meets}
+use Rattle.plan_types.specs.Frames.{Row, Frame, IsFrame, IsFrameOf, empty_frame}
 use Rattle.plan_dsl.specs.Ops.{Expression}
-use Rattle.plan_dsl.specs.Plans.{Named}
-use Rattle.plan_dsl.specs.PlanKernels.{Evaluation, selected, selected_on, hstacked, hstacked_on, filtered, filtered_on}
-use Rattle.plan_dsl.specs.Grouping.{grouped, grouped_on}
+use Rattle.plan_dsl.specs.Plans.{Named, Work}
+use Rattle.plan_dsl.specs.PlanRules.{names_in}
+use Rattle.plan_dsl.specs.PlanKernels.{Evaluation, gives_nothing, over_frame, work_frame}
 
--- two evaluations say the same of expressions side by side, on every frame of the columns
+abbrev frame_of : Columns → List Row → Frame
+frame_of schema rows = record { schema = schema; rows = rows }
+
+-- two evaluations say the same of expressions side by side, on every frame of the columns, and so of lists of them
 abbrev pub AgreeOn : Columns → Evaluation → Evaluation → List (Named Expression) → List (Named Expression) → Type 0
-AgreeOn schema e f xs ys = (rows : List Row) → IsFrame (record { schema = schema; rows = rows }) → map (e (record { schema = schema; rows = rows })) xs ≡ map (f (record { schema = schema; rows = rows })) ys
+AgreeOn schema e f xs ys = (rows : List Row) → IsFrame (frame_of schema rows) → map (e (frame_of schema rows)) xs ≡ map (f (frame_of schema rows)) ys
 
-on_frame : (e f : Evaluation) (xs ys : List (Named Expression)) (schema : Columns) (frame : Frame) → IsFrameOf schema frame → AgreeOn schema e f xs ys → map (e frame) xs ≡ map (f frame) ys
+abbrev pub ListsAgreeOn : Columns → Evaluation → Evaluation → List (List (Named Expression)) → List (List (Named Expression)) → Type 0
+ListsAgreeOn schema e f xs ys = (rows : List Row) → IsFrame (frame_of schema rows) → map (map (e (frame_of schema rows))) xs ≡ map (map (f (frame_of schema rows))) ys
+
+pub lists_agree : (schema : Columns) (e f : Evaluation) (xs ys : List (Named Expression)) (us vs : List (List (Named Expression))) → AgreeOn schema e f xs ys → ListsAgreeOn schema e f us vs → ListsAgreeOn schema e f (xs ∷ us) (ys ∷ vs)
+lists_agree schema e f xs ys us vs first later rows is =
+    let here = first rows is in
+    let there = later rows is in
+    λ i. here i ∷ there i
+
+on_frame : (e f : Evaluation) (xs ys : List (List (Named Expression))) (schema : Columns) (frame : Frame) → IsFrameOf schema frame → ListsAgreeOn schema e f xs ys → map (map (e frame)) xs ≡ map (map (f frame)) ys
 on_frame e f xs ys schema frame is agree =
-    subst (λ s. map (e (record { schema = s; rows = frame.rows })) xs ≡ map (f (record { schema = s; rows = frame.rows })) ys) (sym is.schema_is) (agree frame.rows (subst (λ s. IsFrame (record { schema = s; rows = frame.rows })) is.schema_is is.frame_is))
+    subst (λ s. map (map (e (frame_of s frame.rows))) xs ≡ map (map (f (frame_of s frame.rows))) ys) (sym is.schema_is) (agree frame.rows (subst (λ s. IsFrame (frame_of s frame.rows)) is.schema_is is.frame_is))
 
 pub first_is : {A : Type 0} (x y : A) (xs ys : List A) → (x ∷ xs) ≡ (y ∷ ys) → x ≡ y
 first_is x y xs ys e = cc
 
--- then a select of as many gives the same
-pub selected_agrees : (e f : Evaluation) (xs ys : List (Named Expression)) (schema : Columns) (input : Outcome Frame) → length xs ≡ length ys → AgreeOn schema e f xs ys → Meets (IsFrameOf schema) input → selected e xs input ≡ selected f ys input
-selected_agrees e f [] [] schema input count agree meets = refl
-selected_agrees e f (x ∷ xs) (y ∷ ys) schema (Done frame) count agree meets =
-    ap (λ es. selected_on es (row_numbers frame)) (on_frame e f (x ∷ xs) (y ∷ ys) schema frame meets agree)
-selected_agrees e f (x ∷ xs) (y ∷ ys) schema Fault count agree meets = refl
-selected_agrees e f (x ∷ xs) (y ∷ ys) schema Stuck count agree meets = refl
-selected_agrees e f [] (y ∷ ys) schema input count agree meets = cc
-selected_agrees e f (x ∷ xs) [] schema input count agree meets = cc
+work_agrees : (work : Work) (e f : Evaluation) (xs ys : List (List (Named Expression))) (schema : Columns) (input : Outcome Frame) → ListsAgreeOn schema e f xs ys → Meets (IsFrameOf schema) input → then_do input (λ frame. work_frame work (map (map (e frame)) xs) frame) ≡ then_do input (λ frame. work_frame work (map (map (f frame)) ys) frame)
+work_agrees work e f xs ys schema (Done frame) agree meets = ap (λ answers. work_frame work answers frame) (on_frame e f xs ys schema frame meets agree)
+work_agrees work e f xs ys schema Fault agree meets = refl
+work_agrees work e f xs ys schema Stuck agree meets = refl
 
--- so does an hstack
-pub hstacked_agrees : (e f : Evaluation) (xs ys : List (Named Expression)) (schema : Columns) (input : Outcome Frame) → AgreeOn schema e f xs ys → Meets (IsFrameOf schema) input → hstacked e xs input ≡ hstacked f ys input
-hstacked_agrees e f xs ys schema (Done frame) agree meets = ap (λ es. hstacked_on es frame) (on_frame e f xs ys schema frame meets agree)
-hstacked_agrees e f xs ys schema Fault agree meets = refl
-hstacked_agrees e f xs ys schema Stuck agree meets = refl
-
--- a group-by, where they say the same of keys and of aggregates
-pub grouped_agrees : (e f : Evaluation) (xs ys us vs : List (Named Expression)) (schema : Columns) (input : Outcome Frame) → AgreeOn schema e f xs ys → AgreeOn schema e f us vs → Meets (IsFrameOf schema) input → grouped e xs us input ≡ grouped f ys vs input
-grouped_agrees e f xs ys us vs schema (Done frame) keys aggs meets =
-    let first = on_frame e f xs ys schema frame meets keys in
-    let later = on_frame e f us vs schema frame meets aggs in
-    λ i. grouped_on (first i) (later i) frame
-grouped_agrees e f xs ys us vs schema Fault keys aggs meets = refl
-grouped_agrees e f xs ys us vs schema Stuck keys aggs meets = refl
-
--- and so does a filter
-pub filtered_agrees : (e f : Evaluation) (x y : Named Expression) (schema : Columns) (input : Outcome Frame) → AgreeOn schema e f (x ∷ []) (y ∷ []) → Meets (IsFrameOf schema) input → filtered e x input ≡ filtered f y input
-filtered_agrees e f x y schema (Done frame) agree meets =
-    let same : e frame x ≡ f frame y = first_is _ _ [] [] (on_frame e f (x ∷ []) (y ∷ []) schema frame meets agree) in
-    ap (λ v. filtered_on v frame) same
-filtered_agrees e f x y schema Fault agree meets = refl
-filtered_agrees e f x y schema Stuck agree meets = refl
+-- then a node over one input gives the same over lists of the same names
+pub over_agrees : (work : Work) (e f : Evaluation) (xs ys : List (List (Named Expression))) (schema : Columns) (input : Outcome Frame) → map names_in xs ≡ map names_in ys → ListsAgreeOn schema e f xs ys → Meets (IsFrameOf schema) input → over_frame e work xs input ≡ over_frame f work ys input
+over_agrees work e f xs ys schema input names agree meets =
+    let gives = work_agrees work e f xs ys schema input agree meets in
+    let nothing = ap (gives_nothing work) names in
+    λ i. cond (nothing i) (Done empty_frame) (gives i)

@@ -14,6 +14,7 @@ pub mod ExpansionLemmas
 pub mod ExprLemmas
 pub mod FitLemmas
 pub mod FrameLemmas
+pub mod FrameRowLemmas
 pub mod FunctionLemmas
 pub mod FunctionRuleLemmas
 pub mod GroupLemmas
@@ -31,10 +32,12 @@ pub mod OrderLemmas
 pub mod PickLemmas
 pub mod ResolvingLemmas
 pub mod RowLemmas
+pub mod RowWorkLemmas
 pub mod RuleLemmas
 pub mod RunLemmas
 pub mod SameLemmas
 pub mod SharingLemmas
+pub mod SortFlagLemmas
 pub mod SortLemmas
 pub mod SignatureLemmas
 pub mod StrictLemmas

@@ -291,16 +291,21 @@ module _ {A : Type 0} (before : A → A → Bool) where
 pub values_sorted : (options : SortOptions) (type : Ty) (values : List Val) → all_fit values type ≡ true → IsSortOf (λ value. fits value type) (comes_before options) values (sort_values options values)
 values_sorted options type values h = is_sorted (comes_before options) (λ value. fits value type) (values_in_order options type) values (each_fits values type h)
 
-rows_fit : (types : List Ty) (values : List Val) (keys : List (List Val)) → list_all (keys_fit types) keys ≡ true → AllByRecursion (λ (row : Val × List Val). keys_fit types row.1 ≡ true) (zip values keys)
+rows_fit : {A : Type 0} (types : List Ty) (items : List A) (keys : List Row) → list_all (keys_fit types) keys ≡ true → AllByRecursion (λ (row : A × Row). keys_fit types row.1 ≡ true) (zip items keys)
 rows_fit types [] keys h = tt
-rows_fit types (value ∷ values) [] h = tt
-rows_fit types (value ∷ values) (row ∷ rows) h = let parts = and_parts (keys_fit types row) (list_all (keys_fit types) rows) h in (parts.0, rows_fit types values rows parts.1)
+rows_fit types (item ∷ items) [] h = tt
+rows_fit types (item ∷ items) (row ∷ rows) h = let parts = and_parts (keys_fit types row) (list_all (keys_fit types) rows) h in (parts.0, rows_fit types items rows parts.1)
+
+-- items of any type, each beside its keys
+pub beside_keys_sorted : {A : Type 0} (options : List SortOptions) (types : List Ty) (keys : List Row) (items : List A) → list_all (keys_fit types) keys ≡ true
+    → IsSortOf (λ (row : A × Row). keys_fit types row.1) (λ left right. keys_before options left.1 right.1) (zip items keys) (sorted (λ left right. keys_before options left.1 right.1) (zip items keys))
+beside_keys_sorted {A = A} options types keys items h =
+    let order = keys_in_order options types in
+    is_sorted (λ (left right : A × Row). keys_before options left.1 right.1) (λ row. keys_fit types row.1) (record { one_way = λ x y. order.one_way x.1 y.1; chain = λ x y z. order.chain x.1 y.1 z.1 }) (zip items keys) (rows_fit types items keys h)
 
 pub rows_sorted : (options : List SortOptions) (types : List Ty) (keys : List (List Val)) (values : List Val) → list_all (keys_fit types) keys ≡ true
     → IsSortOf (λ row. keys_fit types row.1) (λ left right. keys_before options left.1 right.1) (zip values keys) (sorted_rows options keys values)
-rows_sorted options types keys values h =
-    let order = keys_in_order options types in
-    is_sorted (λ (left right : Val × List Val). keys_before options left.1 right.1) (λ row. keys_fit types row.1) (record { one_way = λ x y. order.one_way x.1 y.1; chain = λ x y z. order.chain x.1 y.1 z.1 }) (zip values keys) (rows_fit types values keys h)
+rows_sorted options types keys values h = beside_keys_sorted options types keys values h
 
 -- what holds of an outcome holds of what is found
 of_found : {A : Type 0} (P : A → Type 0) (outcome : Outcome A) (found : A) → Meets P outcome → outcome ≡ Done found → P found

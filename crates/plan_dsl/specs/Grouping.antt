@@ -3,19 +3,17 @@
 -- frame has a row for each group: its keys, then what each aggregate gives on the group's rows. That is its one value, or
 -- the list of its values where it may have many. Where there are no rows there are no groups, and no aggregate is evaluated.
 use Rattle.std.specs.Prelude.{ℕ, List, [], ◌∷◌, ◌++◌, map, length, Option, Some, None, Bool, true, false, Result, Ok, Err}
-use Rattle.plan_types.specs.Schemas.{Columns}
+use Rattle.plan_types.specs.Schemas.{Name, Columns}
 use Rattle.plan_types.specs.Values.{Val, ListValue}
 use Rattle.plan_types.specs.ValueViews.{values_from}
 use Rattle.plan_types.specs.Outcomes.{Outcome, Done, Stuck, then_do}
 use Rattle.plan_types.specs.Frames.{Row, Frame, row_numbers}
 use Rattle.plan_types.specs.declared.error.ErrorKind.{ErrorKind}
-use Rattle.plan_dsl.specs.Ops.{Expression}
-use Rattle.plan_dsl.specs.Plans.{Named}
 use Rattle.plan_dsl.specs.Typing.{Typed}
 use Rattle.plan_dsl.specs.Kernels.{key_rows}
 use Rattle.plan_dsl.specs.Groups.{Group, groups}
-use Rattle.plan_dsl.specs.PlanRules.{column_before, typed_in_groups}
-use Rattle.plan_dsl.specs.Evaluations.{Evaluated, Evaluation, Series, all_series, series_columns}
+use Rattle.plan_dsl.specs.PlanRules.{type_in_groups}
+use Rattle.plan_dsl.specs.Evaluations.{Evaluated, Series, all_series, series_columns}
 
 -- what an aggregate's values are in a group: the list of them where there may be many, else the only one
 abbrev pub group_value : Bool → List Val → Outcome Val
@@ -37,10 +35,15 @@ abbrev pub group_rows : List Evaluated → List (Group ℕ) → Outcome (List Ro
 group_rows aggs [] = Done []
 group_rows aggs (group ∷ others) = then_do (group_values aggs group.items) (λ values. then_do (group_rows aggs others) (λ rows. Done ((group.key ++ values) ∷ rows)))
 
+abbrev pub column_before : Name → Result Typed ErrorKind → Option Columns → Option Columns
+column_before name (Err kind) rest = None
+column_before name (Ok typed) None = None
+column_before name (Ok typed) (Some columns) = Some ((name, type_in_groups typed) ∷ columns)
+
 -- the columns of aggregates in groups, where each has a type
 abbrev pub columns_in_groups : List Evaluated → Option Columns
 columns_in_groups [] = Some []
-columns_in_groups (e ∷ es) = column_before e.name (typed_in_groups e.typing) (columns_in_groups es)
+columns_in_groups (e ∷ es) = column_before e.name e.typing (columns_in_groups es)
 
 -- the frame of groups, with these columns of keys and of aggregates
 abbrev pub group_frame : Columns → Option Columns → List Evaluated → List (Group ℕ) → Outcome Frame
@@ -55,6 +58,3 @@ grouped_by keys aggs frame =
 -- the frame of a frame's groups by keys
 abbrev pub grouped_on : List Evaluated → List Evaluated → Frame → Outcome Frame
 grouped_on keys aggs frame = then_do (all_series (row_numbers frame) keys) (λ columns. grouped_by columns aggs frame)
-
-abbrev pub grouped : Evaluation → List (Named Expression) → List (Named Expression) → Outcome Frame → Outcome Frame
-grouped evaluate keys aggs input = then_do input (λ frame. grouped_on (map (evaluate frame) keys) (map (evaluate frame) aggs) frame)

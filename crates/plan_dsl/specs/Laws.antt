@@ -13,12 +13,14 @@ use Rattle.plan_dsl.specs.Registry.{Registry}
 use Rattle.plan_dsl.specs.Ops.{Op, LiteralOp, BinaryOp, Expression}
 use Rattle.plan_dsl.specs.Aliases.{IsCore, core, renamed, spelled}
 use Rattle.plan_dsl.specs.Trees.{Trees, node, no_more, more, tree_at}
-use Rattle.plan_dsl.specs.Plans.{Named, PlanKind, RefusedKind, PlanOp, Plan, SourcePlan, scans_in, drop_op}
+use Rattle.plan_dsl.specs.Plans.{Named, SimpleProjectionWork, PlanKind, RefusedKind, PlanOp, Plan, SourcePlan, scans_in, drop_op}
 use Rattle.plan_dsl.specs.Sources.{Source, written, unwritten, is_plain, ColumnsOp, IndexColumnOp, ExcludeOp, same_source}
 use Rattle.plan_dsl.specs.Refusals.{joined}
 use Rattle.plan_dsl.specs.Markers.{marker_names, names_of_selectors}
 use Rattle.plan_dsl.specs.Expansion.{plain, expansion, expansions}
 use Rattle.plan_dsl.specs.Drops.{drop_leaves}
+use Rattle.plan_dsl.specs.Signatures.{has_flags}
+use Rattle.plan_dsl.specs.SortFlags.{sort_flags}
 use Rattle.plan_dsl.specs.Resolving.{resolution, resolved_op, resolved}
 use Rattle.plan_dsl.specs.Typing.{Typed, Ruling, rule, types_of, typed_to, typing, typing_all, kinds_in}
 use Rattle.plan_dsl.specs.declared.operator.Operator.{Operator}
@@ -30,7 +32,7 @@ use Rattle.plan_dsl.specs.Meaning.{meaning}
 use Rattle.plan_dsl.specs.Strictness.{IsStrict, IsSame, IsStrictOver, as_operands}
 use Rattle.plan_dsl.specs.StrictRun.{strict_run}
 use Rattle.plan_dsl.specs.PlanRules.{broken_kinds, plan_rule, schema_of, IsWellFormed, Breaks}
-use Rattle.plan_dsl.specs.PlanKernels.{projected}
+use Rattle.plan_dsl.specs.PlanKernels.{Evaluation, over_frame}
 use Rattle.plan_dsl.specs.PlanMeaning.{source_meaning, HasTables, FitsPlan}
 
 -- operands that were taken to their types are taken as they are
@@ -121,7 +123,7 @@ MeaningHasSchema = (registry : Registry) (tables : List Frame) (plan : Plan) (sc
 
 -- a simple projection in a frame's own columns gives the frame
 abbrev pub OwnColumnsGiveTheFrame : Type 0
-OwnColumnsGiveTheFrame = (frame : Frame) → IsFrame frame → projected frame.schema (Done frame) ≡ Done frame
+OwnColumnsGiveTheFrame = (evaluate : Evaluation) (frame : Frame) → IsFrame frame → over_frame evaluate (SimpleProjectionWork frame.schema) [] (Done frame) ≡ Done frame
 
 -- what has plans' ops alone is the expression that is written so, and comes to it; all else comes to none
 pub record HasPlainOps (source : Source) : Type 0 where
@@ -165,11 +167,15 @@ SelectorsNameOnce = (schema : Columns) (selectors : List Source) (names : List N
 
 -- a query's drop that isn't refused breaks no rule, and has the columns that it leaves of its input's
 abbrev pub DropsHaveSchemas : Type 0
-DropsHaveSchemas = (registry : Registry) (selectors : List Source) (strict : Bool) (schema columns : Columns) → HasDistinctNames schema → drop_leaves schema selectors strict ≡ Ok columns → plan_rule registry (resolved_op (drop_op selectors strict) (Some schema ∷ [])) (Some schema ∷ []) ≡ Some columns
+DropsHaveSchemas = (registry : Registry) (selectors : List Source) (strict : Bool) (schema columns : Columns) → HasDistinctNames schema → drop_leaves schema selectors strict ≡ Ok columns → plan_rule registry (resolved_op registry (drop_op selectors strict) (Some schema ∷ [])) (Some schema ∷ []) ≡ Some columns
+
+-- the flags of a query's sort that isn't refused are for the keys to which its expressions are expanded
+abbrev pub SortsHaveFlags : Type 0
+SortsHaveFlags = (schema : Columns) (by : List Source) (descending nulls_last : List Bool) (keys : List Expression) (flags : List Bool × List Bool) → expansions [] schema by ≡ Ok keys → sort_flags schema by descending nulls_last ≡ Ok flags → has_flags flags.0 flags.1 (length keys) ≡ true
 
 -- a query's kind that can't be resolved over inputs that have schemas is refused by some kind of rule
 abbrev pub UnresolvedIsTold : Type 0
-UnresolvedIsTold = (kind : PlanKind Source) (inputs : List Columns) (kinds : List ErrorKind) → resolution kind (map Some inputs) ≡ Err kinds → (told : ErrorKind) × Contains kinds told
+UnresolvedIsTold = (registry : Registry) (kind : PlanKind Source) (inputs : List Columns) (kinds : List ErrorKind) → resolution registry kind (map Some inputs) ≡ Err kinds → (told : ErrorKind) × Contains kinds told
 
 -- the node at a place of a query's plan stands, resolved, at that place
 abbrev pub PlacesStay : Type 0
@@ -177,11 +183,11 @@ PlacesStay = (registry : Registry) (plan : SourcePlan) (place : List ℕ) → tr
 
 -- a query's node that has a schema could be resolved, and breaks no rule
 abbrev pub ResolvedBreaksNothing : Type 0
-ResolvedBreaksNothing = (registry : Registry) (op : PlanOp Source) (inputs : List (Option Columns)) (schema : Columns) → plan_rule registry (resolved_op op inputs) inputs ≡ Some schema → (kind : PlanKind (Named Expression)) × (resolution op.kind inputs ≡ Ok kind) × (broken_kinds registry (resolved_op op inputs) inputs ≡ [])
+ResolvedBreaksNothing = (registry : Registry) (op : PlanOp Source) (inputs : List (Option Columns)) (schema : Columns) → plan_rule registry (resolved_op registry op inputs) inputs ≡ Some schema → (kind : PlanKind (Named Expression)) × (resolution registry op.kind inputs ≡ Ok kind) × (broken_kinds registry (resolved_op registry op inputs) inputs ≡ [])
 
 -- a query's node over an input without schema has none, and breaks no rule
 abbrev pub NothingIsToldAboveARefusal : Type 0
-NothingIsToldAboveARefusal = (registry : Registry) (op : PlanOp Source) (inputs : List (Option Columns)) → list_all is_some inputs ≡ false → (plan_rule registry (resolved_op op inputs) inputs ≡ None) × (broken_kinds registry (resolved_op op inputs) inputs ≡ [])
+NothingIsToldAboveARefusal = (registry : Registry) (op : PlanOp Source) (inputs : List (Option Columns)) → list_all is_some inputs ≡ false → (plan_rule registry (resolved_op registry op inputs) inputs ≡ None) × (broken_kinds registry (resolved_op registry op inputs) inputs ≡ [])
 
 -- a well-formed query scans, resolved, the tables that it scans as it is written
 abbrev pub ScansStay : Type 0

@@ -1,6 +1,7 @@
 -- What the contracts of this crate cite.
 pub mod Aggregates
 pub mod Aliases
+pub mod Coercion
 pub mod Copies
 pub mod Counts
 pub mod Drops
@@ -10,11 +11,14 @@ pub mod ExpressionLaws
 pub mod Expressions
 pub mod GroupLaws
 pub mod Grouping
+pub mod FrameRowLaws
+pub mod FrameRows
 pub mod FunctionTypes
 pub mod FunctionValues
 pub mod Functions
 pub mod Groups
 pub mod HorizontalLaws
+pub mod InlinedCasts
 pub mod Kernels
 pub mod Labels
 pub mod Laws
@@ -31,6 +35,7 @@ pub mod PlanKernels
 pub mod PlanMeaning
 pub mod PlanRules
 pub mod Plans
+pub mod Properties
 pub mod Refusals
 pub mod Registry
 pub mod Resolving
@@ -39,6 +44,7 @@ pub mod Rows
 pub mod Samples
 pub mod Signatures
 pub mod Slices
+pub mod SortFlags
 pub mod SortLaws
 pub mod Sorting
 pub mod SourceLaws
@@ -51,3 +57,4 @@ pub mod ViewLaws
 pub mod WindowLaws
 pub mod Windows
 pub mod Words
+pub mod WorkLaws

@@ -1,18 +1,21 @@
 -- The rules of plans.
 -- A node breaks some kinds of rule, where what they read is there, over inputs that have a schema or none.
 -- Where it breaks none it has a schema. A plan is well formed where each of its nodes has one.
-use Rattle.std.specs.Prelude.{ℕ, zero, suc, List, [], ◌∷◌, ◌++◌, map, Option, Some, None, Bool, true, false, not, is_some, IsTrue, Result, Ok, Err, if◌then◌else◌}
+use Rattle.std.specs.Prelude.{ℕ, zero, suc, List, [], ◌∷◌, ◌++◌, length, map, Option, Some, None, Bool, true, false, not, is_some, IsTrue, Result, Ok, Err, if◌then◌else◌}
 use Rattle.std.specs.List.{Contains, flat_map, list_all}
 use Rattle.std.specs.Option.{option_map, option_map_or}
 use Rattle.plan_types.specs.Schemas.{Name, Columns, type_at, with_column, repeats, names_of, all_known}
 use Rattle.plan_types.specs.Types.{Ty, Truth, ListType, same_type}
 use Rattle.plan_types.specs.declared.error.ErrorKind.{ErrorKind}
-use Rattle.plan_types.specs.declared.error.ErrorKind.TheVariants.{Duplicate, SchemaMismatch, InvalidOperation, ComputeError}
+use Rattle.plan_types.specs.declared.error.ErrorKind.TheVariants.{ColumnNotFound, Duplicate, SchemaMismatch, InvalidOperation, ComputeError}
 use Rattle.plan_dsl.specs.Registry.{Registry}
 use Rattle.plan_dsl.specs.Trees.{Trees, node, no_more, more, fold, fold_all, tree_at}
 use Rattle.plan_dsl.specs.Ops.{Expression}
-use Rattle.plan_dsl.specs.Plans.{Named, PlanKind, ScanKind, SelectKind, HStackKind, GroupByKind, FilterKind, SimpleProjectionKind, RefusedKind, PlanOp, OverInput, Plan, expressions_of}
+use Rattle.plan_dsl.specs.Plans.{Named, Work, SelectWork, HStackWork, GroupByWork, FilterWork, SimpleProjectionWork, SliceWork, SortWork, DistinctWork, PassWork, PlanKind, ScanKind, OverKind, RefusedKind, PlanOp, OverInput, Plan, expressions_of}
 use Rattle.plan_dsl.specs.Literals.{settled}
+use Rattle.plan_dsl.specs.declared.signature.Ask.TheVariants.{Sortable}
+use Rattle.plan_dsl.specs.Signatures.{has_flags, is_asked}
+use Rattle.plan_dsl.specs.Drops.{have_names}
 use Rattle.plan_dsl.specs.Typing.{Typed, typing, kinds_in}
 
 -- the kind where the test says so
@@ -42,23 +45,18 @@ expression_kinds registry inputs expressions = flat_map (λ e. kinds_over regist
 abbrev pub scan_kinds : Columns → List ErrorKind
 scan_kinds own = kind_where (not (all_known own)) InvalidOperation ++ kind_where (repeats (names_of own)) Duplicate
 
--- the names of a node's expressions are distinct, or it breaks the rule of that kind
-abbrev pub name_kinds : ErrorKind → List (Named Expression) → List ErrorKind
-name_kinds kind outputs = kind_where (repeats (map (λ output. output.label.name) outputs)) kind
+-- the names of expressions
+abbrev pub names_in : {E : Type 0} → List (Named E) → List Name
+names_in outputs = map (λ output. output.label.name) outputs
+
+-- names are distinct, or they break the rule of that kind
+abbrev pub name_kinds : ErrorKind → List Name → List ErrorKind
+name_kinds kind names = kind_where (repeats names) kind
 
 -- there is a key
-abbrev pub key_kinds : List (Named Expression) → List ErrorKind
+abbrev pub key_kinds : List Name → List ErrorKind
 key_kinds [] = ComputeError ∷ []
 key_kinds (key ∷ keys) = []
-
--- a group-by has a key, and the names of keys and aggregates are distinct
-abbrev pub group_kinds : List (Named Expression) → List (Named Expression) → List ErrorKind
-group_kinds keys aggs = key_kinds keys ++ name_kinds Duplicate (keys ++ aggs)
-
--- a typed predicate is of the type of truth values: what one that isn't typed breaks, its expression says
-abbrev pub predicate_kinds : Result Typed ErrorKind → List ErrorKind
-predicate_kinds (Err kind) = []
-predicate_kinds (Ok typed) = kind_where (not (same_type typed.type Truth)) InvalidOperation
 
 -- whether a column stands in a schema, with its type
 abbrev pub stands_in : Columns → Name × Ty → Bool
@@ -68,20 +66,49 @@ stands_in schema column = option_map_or (same_type column.1) (type_at schema col
 abbrev pub projection_kinds : Columns → Columns → List ErrorKind
 projection_kinds schema columns = kind_where (not (list_all (stands_in schema) columns)) InvalidOperation ++ kind_where (repeats (names_of columns)) Duplicate
 
+-- the kinds that a typed expression breaks by its type: a predicate is of the type of truth values, and a key of a sort of
+-- one whose values have an order
+abbrev pub type_kinds : Work → Typed → List ErrorKind
+type_kinds FilterWork typed = kind_where (not (same_type typed.type Truth)) InvalidOperation
+type_kinds (SortWork descending nulls_last) typed = kind_where (not (is_asked Sortable typed.type)) InvalidOperation
+type_kinds work typed = []
+
+-- what an expression that isn't typed breaks, it says itself
+abbrev pub typed_kinds : Work → Result Typed ErrorKind → List ErrorKind
+typed_kinds work (Err kind) = []
+typed_kinds work (Ok typed) = type_kinds work typed
+
+abbrev pub list_type_kinds : Registry → Work → Columns → List (Named Expression) → List ErrorKind
+list_type_kinds registry work schema outputs = flat_map (λ output. typed_kinds work (typing registry schema (settled output.expression))) outputs
+
+abbrev pub all_type_kinds : Registry → Work → Columns → List (List (Named Expression)) → List ErrorKind
+all_type_kinds registry work schema lists = flat_map (list_type_kinds registry work schema) lists
+
+-- the names by which rows are kept once stand in their schema
+abbrev pub subset_kinds : Columns → Option (List Name) → List ErrorKind
+subset_kinds schema None = []
+subset_kinds schema (Some names) = kind_where (not (have_names schema names)) ColumnNotFound
+
+-- The kinds that a node over an input of the schema breaks, whatever the types of its expressions. Another number of
+-- lists than its own, which no query has, breaks a rule too, and so does a drop, which no resolved plan has.
+abbrev pub work_kinds : Work → Columns → List (List Name) → List ErrorKind
+work_kinds SelectWork schema (names ∷ []) = name_kinds Duplicate names
+work_kinds HStackWork schema (names ∷ []) = name_kinds ComputeError names
+work_kinds GroupByWork schema (keys ∷ aggs ∷ []) = key_kinds keys ++ name_kinds Duplicate (keys ++ aggs)
+work_kinds FilterWork schema ((name ∷ []) ∷ []) = []
+work_kinds (SimpleProjectionWork columns) schema [] = projection_kinds schema columns
+work_kinds (SliceWork offset count) schema [] = []
+work_kinds (SortWork descending nulls_last) schema (keys ∷ []) = kind_where (not (has_flags descending nulls_last (length keys))) ComputeError
+work_kinds (DistinctWork keep subset) schema [] = subset_kinds schema subset
+work_kinds (PassWork passing) schema [] = []
+work_kinds work schema lists = SchemaMismatch ∷ []
+
 -- The kinds that a node breaks besides those of its expressions, by the schemas of its inputs. Another number of
--- inputs than its own, which no query has, breaks a rule too, and so does a drop, which no resolved plan has.
+-- inputs than its own, which no query has, breaks a rule too.
 abbrev pub own_kinds : Registry → PlanKind (Named Expression) → List (Option Columns) → List ErrorKind
 own_kinds registry (ScanKind table schema) [] = scan_kinds schema
-own_kinds registry (SelectKind outputs) (None ∷ []) = []
-own_kinds registry (SelectKind outputs) (Some schema ∷ []) = name_kinds Duplicate outputs
-own_kinds registry (HStackKind outputs) (None ∷ []) = []
-own_kinds registry (HStackKind outputs) (Some schema ∷ []) = name_kinds ComputeError outputs
-own_kinds registry (GroupByKind keys aggs) (None ∷ []) = []
-own_kinds registry (GroupByKind keys aggs) (Some schema ∷ []) = group_kinds keys aggs
-own_kinds registry (FilterKind predicate) (None ∷ []) = []
-own_kinds registry (FilterKind predicate) (Some schema ∷ []) = predicate_kinds (typing registry schema (settled predicate.expression))
-own_kinds registry (SimpleProjectionKind columns) (None ∷ []) = []
-own_kinds registry (SimpleProjectionKind columns) (Some schema ∷ []) = projection_kinds schema columns
+own_kinds registry (OverKind work lists) (None ∷ []) = []
+own_kinds registry (OverKind work lists) (Some schema ∷ []) = all_type_kinds registry work schema lists ++ work_kinds work schema (map names_in lists)
 own_kinds registry (RefusedKind kinds) inputs = kinds
 own_kinds registry kind inputs = SchemaMismatch ∷ []
 
@@ -89,16 +116,34 @@ own_kinds registry kind inputs = SchemaMismatch ∷ []
 abbrev pub broken_kinds : Registry → PlanOp (Named Expression) → List (Option Columns) → List ErrorKind
 broken_kinds registry op inputs = expression_kinds registry inputs (expressions_of op.kind) ++ own_kinds registry op.kind inputs
 
-abbrev pub column_before : Name → Result Typed ErrorKind → Option Columns → Option Columns
-column_before name (Err kind) rest = None
-column_before name (Ok typed) None = None
-column_before name (Ok typed) (Some columns) = Some ((name, typed.type) ∷ columns)
+-- a typed expression, under its name
+pub record TypedOutput : Type 0 where
+  pub name : Name
+  pub typed : Typed
 
--- the names and types of expressions, where each has a type
-abbrev pub columns_of : Registry → Columns → List (Named Expression) → Option Columns
-columns_of registry schema [] = Some []
-columns_of registry schema (output ∷ outputs) =
-    column_before output.label.name (typing registry schema (settled output.expression)) (columns_of registry schema outputs)
+abbrev pub output_before : Name → Result Typed ErrorKind → Option (List TypedOutput) → Option (List TypedOutput)
+output_before name (Err kind) rest = None
+output_before name (Ok typed) None = None
+output_before name (Ok typed) (Some outputs) = Some (record { name = name; typed = typed } ∷ outputs)
+
+-- expressions with their types, where each has one
+abbrev pub typed_outputs : Registry → Columns → List (Named Expression) → Option (List TypedOutput)
+typed_outputs registry schema [] = Some []
+typed_outputs registry schema (output ∷ outputs) =
+    output_before output.label.name (typing registry schema (settled output.expression)) (typed_outputs registry schema outputs)
+
+abbrev pub list_before : Option (List TypedOutput) → Option (List (List TypedOutput)) → Option (List (List TypedOutput))
+list_before (Some outputs) (Some rest) = Some (outputs ∷ rest)
+list_before outputs rest = None
+
+-- so those of lists
+abbrev pub typed_lists : Registry → Columns → List (List (Named Expression)) → Option (List (List TypedOutput))
+typed_lists registry schema [] = Some []
+typed_lists registry schema (list ∷ lists) = list_before (typed_outputs registry schema list) (typed_lists registry schema lists)
+
+-- the names and types of expressions
+abbrev pub columns_of : List TypedOutput → Columns
+columns_of outputs = map (λ output. (output.name, output.typed.type)) outputs
 
 -- the columns with others, in order: each in place of its namesake, else at the end
 abbrev pub with_columns : Columns → Columns → Columns
@@ -110,29 +155,31 @@ with_columns schema (column ∷ columns) = with_columns (with_column schema colu
 abbrev pub type_in_groups : Typed → Ty
 type_in_groups typed = if typed.many then ListType typed.type else typed.type
 
-abbrev pub typed_in_groups : Result Typed ErrorKind → Result Typed ErrorKind
-typed_in_groups (Err kind) = Err kind
-typed_in_groups (Ok typed) = Ok (record { type = type_in_groups typed; many = true })
+-- the names and types of aggregates in groups
+abbrev pub aggregate_columns : List TypedOutput → Columns
+aggregate_columns outputs = map (λ output. (output.name, type_in_groups output.typed)) outputs
 
--- the names and types of aggregates in groups, where each has a type
-abbrev pub aggregate_columns : Registry → Columns → List (Named Expression) → Option Columns
-aggregate_columns registry schema [] = Some []
-aggregate_columns registry schema (output ∷ outputs) =
-    column_before output.label.name (typed_in_groups (typing registry schema (settled output.expression))) (aggregate_columns registry schema outputs)
+-- the schema of a node over an input of the schema, by its typed expressions
+abbrev pub work_schema : Work → Columns → List (List TypedOutput) → Columns
+work_schema SelectWork schema (outputs ∷ []) = columns_of outputs
+work_schema HStackWork schema (outputs ∷ []) = with_columns schema (columns_of outputs)
+work_schema GroupByWork schema (keys ∷ aggs ∷ []) = columns_of keys ++ aggregate_columns aggs
+work_schema (SimpleProjectionWork columns) schema lists = columns
+work_schema work schema lists = schema
 
--- the columns of keys, and then those of aggregates
-abbrev pub columns_beside : Option Columns → Option Columns → Option Columns
-columns_beside (Some keys) (Some aggs) = Some (keys ++ aggs)
-columns_beside keys aggs = None
+-- whether it has its input's schema, so that a lowered plan's node records none
+abbrev pub keeps_schema : Work → Bool
+keeps_schema FilterWork = true
+keeps_schema (SliceWork offset count) = true
+keeps_schema (SortWork descending nulls_last) = true
+keeps_schema (DistinctWork keep subset) = true
+keeps_schema (PassWork passing) = true
+keeps_schema work = false
 
 -- the schema of a node that breaks no rule
 abbrev pub schema_by : Registry → PlanKind (Named Expression) → List (Option Columns) → Option Columns
 schema_by registry (ScanKind table schema) [] = Some schema
-schema_by registry (SelectKind outputs) (Some schema ∷ []) = columns_of registry schema outputs
-schema_by registry (HStackKind outputs) (Some schema ∷ []) = option_map (with_columns schema) (columns_of registry schema outputs)
-schema_by registry (GroupByKind keys aggs) (Some schema ∷ []) = columns_beside (columns_of registry schema keys) (aggregate_columns registry schema aggs)
-schema_by registry (FilterKind predicate) (Some schema ∷ []) = Some schema
-schema_by registry (SimpleProjectionKind columns) (Some schema ∷ []) = Some columns
+schema_by registry (OverKind work lists) (Some schema ∷ []) = option_map (work_schema work schema) (typed_lists registry schema lists)
 schema_by registry kind inputs = None
 
 abbrev pub where_unbroken : List ErrorKind → Option Columns → Option Columns

@@ -1,13 +1,14 @@
 -- The tree of a plan.
-use Rattle.std.specs.Prelude.{◌≡◌, ℕ, List, [], ◌∷◌, ◌++◌, map, Option, Some, None, Bool}
+use Rattle.std.specs.Prelude.{◌≡◌, ℕ, ℤ, List, [], ◌∷◌, ◌++◌, map, Option, Some, None, Bool}
 use Rattle.std.specs.List.{flat_map}
-use Rattle.plan_types.specs.Schemas.{Columns, columns}
+use Rattle.plan_types.specs.Schemas.{Name, Columns, columns}
 use Rattle.plan_types.specs.declared.error.ErrorKind.{ErrorKind}
 use Rattle.plan_dsl.specs.declared.plan.DslPlan.{DslPlan}
 use Rattle.plan_dsl.specs.declared.plan.DslPlan.TheVariants.{DataFrameScan, Filter', GroupBy', HStack', MapFunction', Select'}
 use Rattle.plan_dsl.specs.declared.function.DslFunction.{DslFunction}
 use Rattle.plan_dsl.specs.declared.function.DslFunction.TheVariants.{Drop}
 use Rattle.plan_dsl.specs.declared.plan.ProjectionOptions.{ProjectionOptions}
+use Rattle.plan_dsl.specs.declared.distinct_options.UniqueKeepStrategy.{UniqueKeepStrategy}
 use Rattle.plan_dsl.specs.Aliases.{core}
 use Rattle.plan_dsl.specs.Trees.{Tree, node, no_more, more, children_from, fold}
 use Rattle.plan_dsl.specs.Ops.{Expression, FunctionOp}
@@ -22,19 +23,56 @@ pub record Named (E : Type 0) : Type 0 where
   pub label : Label
   pub expression : E
 
--- The kind of a plan's node, with its expressions and flags, over what an expression is: a source expression in a
--- query, a named tree in a plan, a named node in the arena. A node of a query that can't be resolved is refused, by
--- the kinds of rule that it breaks: no query writes such a node, and no arena holds one. Neither does a query write a
--- simple projection. A drop stands in queries alone, and is resolved to a simple projection of what it leaves.
+-- what a node does that gives its input's rows as they are: it keeps them under a number, hands them out, or lays them anew
+pub data Passing : Type 0 where
+  CachePass : (id : ℕ) → Passing
+  SinkPass : Passing
+  RechunkPass : Passing
+
+-- What a node does over its only input, but for its expressions: its flags. No query writes a simple projection. A drop
+-- stands in queries alone, and is resolved to a simple projection of what it leaves. A slice has so many rows from a
+-- place on. A sort has a flag for each key, or one for all; in a query for each expression in place of each key.
+-- A distinct keeps rows once, by their values under some names or as a whole: in a query no names stand in it, but selectors
+-- may stand over its input, which are resolved to these.
+pub data Work : Type 0 where
+  SelectWork : Work
+  HStackWork : Work
+  GroupByWork : Work
+  FilterWork : Work
+  SimpleProjectionWork : (columns : Columns) → Work
+  DropWork : (strict : Bool) → Work
+  SliceWork : (offset : ℤ) (count : ℕ) → Work
+  SortWork : (descending nulls_last : List Bool) → Work
+  DistinctWork : (keep : UniqueKeepStrategy) (subset : Option (List Name)) → Work
+  PassWork : (passing : Passing) → Work
+
+-- The kind of a plan's node, over what an expression is: a source expression in a query, a named tree in a plan, a named
+-- node in the arena. A node over one input does its work by lists of expressions. A node of a query that can't be resolved
+-- is refused, by the kinds of rule that it breaks: no query writes such a node, and no arena holds one.
 pub data PlanKind (E : Type 0) : Type 0 where
   ScanKind : (table : Option ℕ) (schema : Columns) → PlanKind E
-  SelectKind : (outputs : List E) → PlanKind E
-  HStackKind : (outputs : List E) → PlanKind E
-  GroupByKind : (keys aggs : List E) → PlanKind E
-  FilterKind : (predicate : E) → PlanKind E
-  SimpleProjectionKind : (columns : Columns) → PlanKind E
-  DropKind : (selectors : List E) (strict : Bool) → PlanKind E
+  OverKind : (work : Work) (lists : List (List E)) → PlanKind E
   RefusedKind : (kinds : List ErrorKind) → PlanKind E
+
+-- the outputs of a select and of an hstack, the keys and aggregates of a group-by, the predicate of a filter, and the
+-- selectors of a drop
+abbrev pub SelectKind : {E : Type 0} → List E → PlanKind E
+SelectKind outputs = OverKind SelectWork (outputs ∷ [])
+
+abbrev pub HStackKind : {E : Type 0} → List E → PlanKind E
+HStackKind outputs = OverKind HStackWork (outputs ∷ [])
+
+abbrev pub GroupByKind : {E : Type 0} → List E → List E → PlanKind E
+GroupByKind keys aggs = OverKind GroupByWork (keys ∷ aggs ∷ [])
+
+abbrev pub FilterKind : {E : Type 0} → E → PlanKind E
+FilterKind predicate = OverKind FilterWork ((predicate ∷ []) ∷ [])
+
+abbrev pub SimpleProjectionKind : {E : Type 0} → Columns → PlanKind E
+SimpleProjectionKind columns = OverKind (SimpleProjectionWork columns) []
+
+abbrev pub DropKind : {E : Type 0} → List E → Bool → PlanKind E
+DropKind selectors strict = OverKind (DropWork strict) (selectors ∷ [])
 
 -- What a node of a plan does: its kind, and the schema of its frame where the node records it. A scan does, and a
 -- select, an hstack, a group-by or a simple projection of a lowered plan. These of a query, a filter and a drop record none.
@@ -50,15 +88,10 @@ pub record OverInput (E : Type 0) : Type 0 where
 abbrev pub over_input : {E : Type 0} → ℕ → List E → OverInput E
 over_input number outputs = record { input = number; outputs = outputs }
 
--- the expressions of a node, in order: selectors stand for names, and aren't typed
+-- the expressions of a node, in order
 abbrev pub expressions_of : {E : Type 0} → PlanKind E → List (OverInput E)
 expressions_of (ScanKind table schema) = []
-expressions_of (SelectKind outputs) = over_input 0 outputs ∷ []
-expressions_of (HStackKind outputs) = over_input 0 outputs ∷ []
-expressions_of (GroupByKind keys aggs) = over_input 0 keys ∷ over_input 0 aggs ∷ []
-expressions_of (FilterKind predicate) = over_input 0 (predicate ∷ []) ∷ []
-expressions_of (SimpleProjectionKind columns) = []
-expressions_of (DropKind selectors strict) = []
+expressions_of (OverKind work lists) = map (over_input 0) lists
 expressions_of (RefusedKind kinds) = []
 
 abbrev pub Plan : Type 0
@@ -75,39 +108,46 @@ named tree = record { label = label_of tree; expression = core tree }
 abbrev pub scan_op : {E : Type 0} → Option ℕ → Columns → PlanOp E
 scan_op table schema = record { kind = ScanKind table schema; recorded = Some schema }
 
+-- a node over one input
+abbrev pub over_op : {E : Type 0} → Work → List (List E) → Option Columns → PlanOp E
+over_op work lists recorded = record { kind = OverKind work lists; recorded = recorded }
+
 abbrev pub select_op : {E : Type 0} → List E → Option Columns → PlanOp E
-select_op outputs recorded = record { kind = SelectKind outputs; recorded = recorded }
+select_op outputs recorded = over_op SelectWork (outputs ∷ []) recorded
 
 abbrev pub hstack_op : {E : Type 0} → List E → Option Columns → PlanOp E
-hstack_op outputs recorded = record { kind = HStackKind outputs; recorded = recorded }
+hstack_op outputs recorded = over_op HStackWork (outputs ∷ []) recorded
 
 abbrev pub group_by_op : {E : Type 0} → List E → List E → Option Columns → PlanOp E
-group_by_op keys aggs recorded = record { kind = GroupByKind keys aggs; recorded = recorded }
+group_by_op keys aggs recorded = over_op GroupByWork (keys ∷ aggs ∷ []) recorded
 
 abbrev pub filter_op : {E : Type 0} → E → PlanOp E
-filter_op predicate = record { kind = FilterKind predicate; recorded = None }
+filter_op predicate = over_op FilterWork ((predicate ∷ []) ∷ []) None
 
 abbrev pub simple_projection_op : {E : Type 0} → Columns → Option Columns → PlanOp E
-simple_projection_op columns recorded = record { kind = SimpleProjectionKind columns; recorded = recorded }
+simple_projection_op columns recorded = over_op (SimpleProjectionWork columns) [] recorded
 
 abbrev pub drop_op : {E : Type 0} → List E → Bool → PlanOp E
-drop_op selectors strict = record { kind = DropKind selectors strict; recorded = None }
+drop_op selectors strict = over_op (DropWork strict) (selectors ∷ []) None
 
--- a select, an hstack, a group-by, a filter and a drop in a query
+-- a node over one input in a query: a select, an hstack, a group-by, a filter and a drop
+abbrev pub source_over : Work → List (List Source) → SourcePlan → SourcePlan
+source_over work lists input = node (over_op work lists None) (more input no_more)
+
 abbrev pub source_select : List Source → SourcePlan → SourcePlan
-source_select sources input = node (select_op sources None) (more input no_more)
+source_select sources input = source_over SelectWork (sources ∷ []) input
 
 abbrev pub source_hstack : List Source → SourcePlan → SourcePlan
-source_hstack sources input = node (hstack_op sources None) (more input no_more)
+source_hstack sources input = source_over HStackWork (sources ∷ []) input
 
 abbrev pub source_group_by : List Source → List Source → SourcePlan → SourcePlan
-source_group_by keys aggs input = node (group_by_op keys aggs None) (more input no_more)
+source_group_by keys aggs input = source_over GroupByWork (keys ∷ aggs ∷ []) input
 
 abbrev pub source_filter : Source → SourcePlan → SourcePlan
-source_filter source input = node (filter_op source) (more input no_more)
+source_filter source input = source_over FilterWork ((source ∷ []) ∷ []) input
 
 abbrev pub source_drop : List Source → Bool → SourcePlan → SourcePlan
-source_drop selectors strict input = node (drop_op selectors strict) (more input no_more)
+source_drop selectors strict input = source_over (DropWork strict) (selectors ∷ []) input
 
 -- a call of a function in a query
 abbrev pub source_call : FunctionExpr → List Source → Source

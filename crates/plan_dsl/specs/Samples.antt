@@ -2,8 +2,8 @@
 use Prim.Native.String.{String}
 use Rattle.std.specs.Prelude.{◌≡◌, ℕ, ℤ, pos, neg_ℤ, List, [], ◌∷◌, map, length, codes, Bool, true, false, Some, None, Result, Ok, Err}
 use Rattle.std.specs.List.{range_with_len}
-use Rattle.plan_types.specs.Types.{Ty, NullType, Truth, Integer, TextType, DateType, TimeType, DatetimeType, DurationType, StructType, Untyped, fields_from}
-use Rattle.plan_types.specs.Values.{Val, NullValue, TruthValue, IntValue, TextValue, ListValue, StructValue}
+use Rattle.plan_types.specs.Types.{Ty, NullType, Truth, TextType, DateType, TimeType, DatetimeType, DurationType, StructType, Untyped, fields_from}
+use Rattle.plan_types.specs.Values.{Val, NullValue, IntValue, ListValue, StructValue}
 use Rattle.plan_types.specs.ValueViews.{values_from}
 pub use Rattle.plan_types.specs.Samples.{Maps as Gives, MapsPairs as GivesOfTwo, int8, int16, int32, int64, uint8, uint16, uint32, uint64, null, yes, no, number, negative, text}
 use Rattle.plan_types.specs.Schemas.{Name, Columns}

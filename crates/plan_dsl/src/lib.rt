@@ -4,6 +4,7 @@
 pub mod aggregate;
 pub mod builder;
 mod copies;
+pub mod distinct_options;
 mod examples;
 pub mod expr;
 pub mod function;

@@ -1,5 +1,8 @@
 //! Laws of plans. The functions do nothing: their clauses are the laws.
-ghost use Rattle.plan_dsl.specs.Laws.{TypedBreaksNothing, RefusalIsBroken, BrokenIsIllFormed, NoSchemaIsBroken, MeaningHasSchema, WrittenIsExpanded, PlainIsWritten, WrittenIsPlain, SameSourcesAreOne, ListsAreExpandedApart, MarkersNameOnce, SelectorsNameOnce, UnresolvedIsTold, PlacesStay, ResolvedBreaksNothing, NothingIsToldAboveARefusal, ScansStay, QueryHasSchema, OwnColumnsGiveTheFrame, DropsHaveSchemas};
+ghost use Rattle.plan_types.specs.Frames.{Row};
+ghost use Rattle.plan_dsl.specs.FrameRowLaws.{SlicesArePartsOfRows, LongSlicesAreAllRows, OffsetsCountFromTheEnd, AllRowsFromTheEndAreTheFront, SortsHaveTheRows, SortsPutRowsInOrder, RowsAreKeptOnce, FirstRowsStandInOrder, AnyRowIsTheFirst, OneRowIsKeptOfOneKey};
+ghost use Rattle.plan_dsl.specs.GroupLaws.{EachIsInOneGroup, ItemsGoToTheEnd};
+ghost use Rattle.plan_dsl.specs.Laws.{TypedBreaksNothing, RefusalIsBroken, BrokenIsIllFormed, NoSchemaIsBroken, MeaningHasSchema, WrittenIsExpanded, PlainIsWritten, WrittenIsPlain, SameSourcesAreOne, ListsAreExpandedApart, MarkersNameOnce, SelectorsNameOnce, UnresolvedIsTold, PlacesStay, ResolvedBreaksNothing, NothingIsToldAboveARefusal, ScansStay, QueryHasSchema, OwnColumnsGiveTheFrame, DropsHaveSchemas, SortsHaveFlags};
 
 /// What is typed breaks no rule, what is refused breaks the rule that the refusal names, and a plan in
 /// which a rule is broken at some place is not well formed. A node without a schema, whose inputs have one,
@@ -20,13 +23,14 @@ pub fn frame_laws()
 
 /// Markers that compare equal are one. Expressions are expanded one by one. A marker other than names or places as they
 /// are listed stands for no name twice, and neither do selectors together. A drop that isn't refused has the columns that
-/// it leaves. What can't be resolved over inputs that have schemas is refused by some kind of rule.
+/// it leaves, and a sort that isn't has flags for its keys. What can't be resolved over inputs that have schemas is refused by some kind of rule.
 pub fn expansion_laws()
     ensures same { SameSourcesAreOne }
     ensures apart { ListsAreExpandedApart }
     ensures once { MarkersNameOnce }
     ensures selectors { SelectorsNameOnce }
     ensures drops { DropsHaveSchemas }
+    ensures sorts { SortsHaveFlags }
     ensures told { UnresolvedIsTold }
 {}
 
@@ -43,4 +47,23 @@ pub fn query_laws()
     ensures above { NothingIsToldAboveARefusal }
     ensures scans { ScansStay }
     ensures schema { QueryHasSchema }
+{}
+
+/// A slice has the rows between two places, which are brought to where there are rows, and of as many rows as there are all.
+/// An offset below 0 counts from the end: as far from it as there are rows is the front. A sort has the rows of its input,
+/// in the order of the keys beside them, and ties as they stood. A distinct keeps the first, the last or the only row of
+/// those beside the same keys, and the kept rows stand as their keys first occur. Any row of some is the first, and one more
+/// row is kept behind the first ones where its keys are new. Of rows beside one key at most one is kept.
+pub fn row_laws()
+    ensures slices { SlicesArePartsOfRows }
+    ensures long_slices { LongSlicesAreAllRows }
+    ensures from_end { OffsetsCountFromTheEnd }
+    ensures from_front { AllRowsFromTheEndAreTheFront }
+    ensures sorted { SortsHaveTheRows }
+    ensures in_order { SortsPutRowsInOrder }
+    ensures groups { EachIsInOneGroup Row × ItemsGoToTheEnd Row }
+    ensures once { RowsAreKeptOnce }
+    ensures first { FirstRowsStandInOrder }
+    ensures any { AnyRowIsTheFirst }
+    ensures one_key { OneRowIsKeptOfOneKey }
 {}

@@ -63,7 +63,7 @@ pub fn names_and_columns_that_stand()
 
 /// A query's drop is resolved over its input's schema, and stands in no resolved plan. No query writes a simple projection.
 pub fn drops_that_are_resolved()
-    ensures kinds { GivesOfTwo resolution (
+    ensures kinds { GivesOfTwo (resolution []) (
         (DropKind (root (written b) ∷ []) true, Some schema_ab ∷ [], Ok (SimpleProjectionKind ((codes "a", int8) ∷ []))) ∷
         (DropKind (root all ∷ []) true, Some schema_ab ∷ [], Ok (SimpleProjectionKind [])) ∷
         (DropKind (root (written (column "z")) ∷ []) true, Some schema_ab ∷ [], Err (ColumnNotFound ∷ [])) ∷
@@ -136,18 +136,18 @@ pub fn kinds_that_simple_projections_break()
     ensures well_formed { IsWellFormed [] (project ((codes "a", int8) ∷ []) (select (b ∷ a ∷ []) (scan schema_ab))) }
 {}
 
-/// A drop in a plan that isn't a query's breaks a rule whatever its inputs. It has no schema, and gives nothing.
+/// A drop in a plan that isn't a query's breaks a rule over an input that has a schema. It has none itself, and gives nothing.
 pub fn drops_in_plans()
     ensures kinds { let op : PlanOp (Named Expression) = drop_op [] false in
-        GivesAll (broken_kinds [] op) (SchemaMismatch ∷ []) ([] ∷ (None ∷ []) ∷ (Some schema_ab ∷ []) ∷ (Some schema_ab ∷ Some schema_ab ∷ []) ∷ []) }
+        Gives (broken_kinds [] op) (([], SchemaMismatch ∷ []) ∷ (None ∷ [], []) ∷ (Some schema_ab ∷ [], SchemaMismatch ∷ []) ∷ (Some schema_ab ∷ Some schema_ab ∷ [], SchemaMismatch ∷ []) ∷ []) }
     ensures schema { let op : PlanOp (Named Expression) = drop_op [] false in GivesAll (plan_rule [] op) None ([] ∷ (Some schema_ab ∷ []) ∷ []) }
     ensures frame { let op : PlanOp (Named Expression) = drop_op [] false in GivesAll (plan_kernel [] (by_meaning []) op) Stuck ([] ∷ (Done table ∷ []) ∷ []) }
 {}
 
-/// Neither a drop nor a simple projection has expressions that are typed or tables of its own.
+/// A simple projection has no expressions, and neither it nor a drop has tables of its own.
 pub fn parts_of_drops()
     ensures trees { source_drop (root all ∷ []) true (scan schema_ab) ≡ node (record { kind = DropKind (root all ∷ []) true; recorded = None }) (more (scan schema_ab) no_more) }
-    ensures expressions { GivesAll (expressions_of {E = Named Expression}) [] (SimpleProjectionKind schema_ab ∷ DropKind [] true ∷ []) }
+    ensures expressions { expressions_of {E = Named Expression} (SimpleProjectionKind schema_ab) ≡ [] }
     ensures casts { cast_count (project [] (select (cast_as Strict int8 b ∷ []) (scan schema_ab))) ≡ 1 }
     ensures nodes { node_count (project [] (project schema_ab (scan schema_ab))) ≡ 3 }
     ensures tables { scans_in (project [] (scan schema_ab)) ≡ record { table = 0; schema = schema_ab } ∷ [] }

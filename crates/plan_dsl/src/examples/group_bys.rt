@@ -120,7 +120,7 @@ pub fn kinds_that_groups_break()
 
 /// What markers of aggregates stand for leaves out the keys that are plain columns once they are expanded.
 pub fn groups_that_are_resolved()
-    ensures kinds { GivesOfTwo (λ keys aggs. resolution (GroupByKind keys aggs) (Some schema_kv ∷ [])) (
+    ensures kinds { GivesOfTwo (λ keys aggs. resolution [] (GroupByKind keys aggs) (Some schema_kv ∷ [])) (
         (written k ∷ [], all ∷ [], Ok (GroupByKind (named k ∷ []) (named v ∷ []))) ∷
         (columns_named ("k" ∷ []) ∷ [], all ∷ [], Ok (GroupByKind (named k ∷ []) (named v ∷ []))) ∷
         (all ∷ [], all ∷ written count ∷ [], Ok (GroupByKind (named k ∷ named v ∷ []) (named count ∷ []))) ∷
@@ -129,12 +129,12 @@ pub fn groups_that_are_resolved()
         (form KeepRoot (written k) ∷ [], all ∷ [], Ok (GroupByKind (named (alias "k" k) ∷ []) (named k ∷ named v ∷ []))) ∷
         (written k ∷ [], written k ∷ [], Ok (GroupByKind (named k ∷ []) (named k ∷ []))) ∷
         ([], all ∷ [], Ok (GroupByKind [] (named k ∷ named v ∷ []))) ∷ []) }
-    ensures refused { GivesOfTwo (λ keys aggs. resolution (GroupByKind keys aggs) (Some schema_kv ∷ [])) (
+    ensures refused { GivesOfTwo (λ keys aggs. resolution [] (GroupByKind keys aggs) (Some schema_kv ∷ [])) (
         (columns_at (pos 2 ∷ []) ∷ [], form KeepRoot (written one) ∷ [], Err (ColumnNotFound ∷ [])) ∷
         (written k ∷ [], form KeepRoot (written one) ∷ columns_at (pos 2 ∷ []) ∷ [], Err (InvalidOperation ∷ ColumnNotFound ∷ [])) ∷ []) }
     ensures aggregates { Gives (over_keys schema_kv (all ∷ [])) (
-        (v ∷ [], Ok (GroupByKind (named v ∷ []) (named k ∷ []))) ∷ (sum v one ∷ [], Ok (GroupByKind (named (sum v one) ∷ []) (named k ∷ named v ∷ []))) ∷ []) }
-    ensures over_others { Gives (resolution (GroupByKind (written k ∷ []) [])) ((None ∷ [], Err []) ∷ ([], Ok (GroupByKind (named k ∷ []) [])) ∷ []) }
+        (v ∷ [], Ok ((v ∷ []) ∷ (k ∷ []) ∷ [])) ∷ (sum v one ∷ [], Ok ((sum v one ∷ []) ∷ (k ∷ v ∷ []) ∷ [])) ∷ []) }
+    ensures over_others { Gives (resolution [] (GroupByKind (written k ∷ []) [])) ((None ∷ [], Err []) ∷ ([], Ok (GroupByKind (named k ∷ []) [])) ∷ []) }
     ensures queries { resolved [] (source_group_by (written k ∷ []) (all ∷ []) (scan schema_kv)) ≡ group_by (k ∷ []) (v ∷ []) (scan schema_kv) }
 {}
 

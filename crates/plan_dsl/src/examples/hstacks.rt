@@ -118,7 +118,7 @@ pub fn parts_of_hstacks()
     ensures nodes { node_count (stack (a ∷ []) (stack [] (scan schema_ab))) ≡ 3 }
     ensures tables { scans_in (stack (a ∷ []) (scan schema_ab)) ≡ record { table = 0; schema = schema_ab } ∷ [] }
     ensures fitting { FitsPlan (table ∷ []) (stack (a ∷ []) (scan schema_ab)) × ¬ (FitsPlan [] (stack (a ∷ []) (scan schema_ab))) }
-    ensures kinds { Gives (resolution (HStackKind (written a ∷ written b ∷ []))) (
+    ensures kinds { Gives (resolution [] (HStackKind (written a ∷ written b ∷ []))) (
         (Some schema_ab ∷ [], Ok (HStackKind (named a ∷ named b ∷ []))) ∷ (None ∷ [], Err []) ∷ []) }
     ensures queries { resolved [] (written_hstack (sum a b ∷ []) (scan schema_ab)) ≡ stack (sum a b ∷ []) (scan schema_ab) }
 {}

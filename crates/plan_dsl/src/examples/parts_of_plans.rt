@@ -1,6 +1,6 @@
 //! Parts of the rules of plans and of what their nodes give, each by itself.
 
-ghost use Rattle.std.specs.Prelude.{◌≡◌, [], ◌∷◌, pos, map, codes, true, false, Some, None, Result, Ok, Err};
+ghost use Rattle.std.specs.Prelude.{◌≡◌, [], ◌∷◌, pos, map, codes, true, false, Some, None, option_map, Result, Ok, Err};
 ghost use Rattle.plan_types.specs.Schemas.{columns};
 ghost use Rattle.plan_types.specs.Types.{NullType, Truth, TextType, ListType, Untyped};
 ghost use Rattle.plan_types.specs.Values.{NullValue, IntValue};
@@ -21,8 +21,8 @@ ghost use Rattle.plan_dsl.specs.Kernels.{Meaning, in_front};
 ghost use Rattle.plan_dsl.specs.Picks.{where_true};
 ghost use Rattle.plan_dsl.specs.Laws.{operator_node};
 ghost use Rattle.plan_dsl.specs.Sources.{Plain};
-ghost use Rattle.plan_dsl.specs.Plans.{ScanKind, SelectKind, FilterKind, OrderOption, ProjectionOption, Named, named, over_input, expressions_of, scans_in, scan_op, select_op, filter_op, plan_tree, options_in};
-ghost use Rattle.plan_dsl.specs.PlanRules.{scan_kinds, predicate_kinds, own_kinds, input_schema, expression_kinds, broken_kinds, columns_of, schema_by, plan_rule, top_kinds};
+ghost use Rattle.plan_dsl.specs.Plans.{FilterWork, ScanKind, SelectKind, FilterKind, OrderOption, ProjectionOption, Named, named, over_input, expressions_of, scans_in, scan_op, select_op, filter_op, plan_tree, options_in};
+ghost use Rattle.plan_dsl.specs.PlanRules.{scan_kinds, typed_kinds, own_kinds, input_schema, expression_kinds, broken_kinds, columns_of, typed_outputs, schema_by, plan_rule, top_kinds};
 ghost use Rattle.plan_dsl.specs.PlanKernels.{Evaluated, series_on, shared_length, rows_of, kept_rows};
 ghost use Rattle.plan_dsl.specs.Samples.{Gives, GivesOfTwo, int8, null, yes, no, number, column, a, b, c, u, many_values, of_one, of_many, sum, equal, frame_with, schema_au, uint64, scan, scan_of, empty_scan, select, keep, series};
 
@@ -55,7 +55,7 @@ pub fn kinds_of_nodes()
         (a ∷ u ∷ a ∷ [], Duplicate ∷ []) ∷
         (u ∷ sum c (equal u a) ∷ [], ColumnNotFound ∷ SchemaMismatch ∷ []) ∷
         (c ∷ a ∷ c ∷ [], ColumnNotFound ∷ ColumnNotFound ∷ Duplicate ∷ []) ∷ []) }
-    ensures predicates { Gives predicate_kinds (
+    ensures predicates { Gives (typed_kinds FilterWork) (
         (of_many Truth, []) ∷ (of_one Truth, []) ∷ (Err ColumnNotFound, []) ∷ (of_many NullType, InvalidOperation ∷ []) ∷
         (of_many int8, InvalidOperation ∷ []) ∷ (of_many (ListType Truth), InvalidOperation ∷ []) ∷ []) }
     ensures filters { Gives (λ predicate. broken_kinds [] (filter_op (named predicate)) (Some schema_au ∷ [])) (
@@ -101,7 +101,7 @@ pub fn kinds_at_the_top()
 
 /// The schema that a node of each kind gives.
 pub fn schemas_of_nodes()
-    ensures columns { Gives (columns_of [] schema_au) (
+    ensures columns { Gives (λ outputs. option_map columns_of (typed_outputs [] schema_au outputs)) (
         (map named (equal a a ∷ u ∷ []), Some ((codes "a", Truth) ∷ (codes "u", uint64) ∷ [])) ∷
         ([], Some []) ∷ (map named (c ∷ a ∷ []), None) ∷ (map named (a ∷ c ∷ []), None) ∷ []) }
     ensures scan { Gives (schema_by [] (ScanKind None ((codes "a", Truth) ∷ []))) (

@@ -18,7 +18,7 @@ ghost use Rattle.plan_dsl.specs.Samples.{Gives, GivesOfTwo, int8, int32, a, b, c
 
 /// A kind over inputs that have schemas has its expressions expanded, and one over an input without schema is refused by no kind.
 pub fn kinds_that_are_resolved()
-    ensures kinds { GivesOfTwo resolution (
+    ensures kinds { GivesOfTwo (resolution []) (
         (ScanKind (Some 0) schema_ab, [], Ok (ScanKind (Some 0) schema_ab)) ∷
         (SelectKind (map written (sum b a ∷ a ∷ [])), Some schema_ab ∷ [], Ok (SelectKind (map named (sum b a ∷ a ∷ [])))) ∷
         (FilterKind (written a), Some schema_ab ∷ [], Ok (FilterKind (named a))) ∷
@@ -30,7 +30,7 @@ pub fn kinds_that_are_resolved()
         (FilterKind (form KeepRoot (written (alias "x" a))), Some schema_abc ∷ [], Ok (FilterKind (named (alias "a" a)))) ∷
         (FilterKind (written a), None ∷ [], Err []) ∷
         (SelectKind (written a ∷ []), Some schema_ab ∷ None ∷ [], Err []) ∷ []) }
-    ensures unexpanded { GivesOfTwo resolution (
+    ensures unexpanded { GivesOfTwo (resolution []) (
         (SelectKind (nth (pos 3) ∷ all ∷ prefix "p_" (written one) ∷ []), Some schema_abc ∷ [], Err (ColumnNotFound ∷ InvalidOperation ∷ [])) ∷
         (SelectKind (written (agg Sum c) ∷ nth (pos 9) ∷ []), Some schema_abc ∷ [], Err (ColumnNotFound ∷ [])) ∷
         (FilterKind (plus all (nth (pos 0))), Some schema_abc ∷ [], Err (InvalidOperation ∷ [])) ∷
@@ -39,7 +39,7 @@ pub fn kinds_that_are_resolved()
         (FilterKind all, None ∷ [], Err []) ∷
         (FilterKind (nth (pos 0)), [], Err (ColumnNotFound ∷ [])) ∷ []) }
     ensures refused { Gives resolved_kind ((Ok (FilterKind (named a)), FilterKind (named a)) ∷ (Err (Duplicate ∷ []), RefusedKind (Duplicate ∷ [])) ∷ []) }
-    ensures recorded { resolved_op (select_op (written a ∷ []) (Some schema_ab)) (None ∷ []) ≡ record { kind = RefusedKind []; recorded = Some schema_ab } }
+    ensures recorded { resolved_op [] (select_op (written a ∷ []) (Some schema_ab)) (None ∷ []) ≡ record { kind = RefusedKind []; recorded = Some schema_ab } }
 {}
 
 /// A well-formed query is resolved to what it says, and a node above one without schema is refused by no kind.
