@@ -34,7 +34,7 @@ module _ (registry : Registry) (old items : List AExpr) (plans filtered : List I
   filter : Denotes (HoldsPlan items filtered) n (node (filter_op output) (more t no_more))
   filter = (
     input.0 ∷ [],
-    record { flat = filter_op (named_node predicate); item = item; denotes = record { same_recorded = refl; kind = (output, refl, (refl, tree, tt)) } },
+    record { flat = filter_op (named_node predicate); item = item; denotes = record { same_recorded = refl; kind = ((output ∷ []) ∷ [], refl, ((refl, tree, tt), tt)) } },
     (below, tt),
   )
 

@@ -6,11 +6,11 @@ use Rattle.std.proofs.lemmas.Option.{slice_get-map, slice_get_within}
 use Rattle.std.proofs.lemmas.List.{map-append, map-set, length-map}
 use Rattle.plan_types.proofs.ListLemmas.{slice_get-append, slice_get-seam, slice_get-set_other, slice_get-set_same}
 use Rattle.plan_dsl.specs.Ops.{Op, Expression}
-use Rattle.plan_dsl.specs.Plans.{Named, PlanKind, ScanKind, SelectKind, HStackKind, GroupByKind, FilterKind, SimpleProjectionKind, DropKind, RefusedKind, PlanOp, Plan}
+use Rattle.plan_dsl.specs.Plans.{Named, Work, FilterWork, PlanKind, ScanKind, OverKind, FilterKind, RefusedKind, PlanOp, Plan}
 use Rattle.plan_dsl.specs.Trees.{Trees, node, no_more, more}
 use Rattle.plan_arena.specs.Denotation.{Denotes, DenoteAll, DenotesTree, greatest, depth_at}
 use Rattle.plan_arena.specs.Layers.{Layer, layer, inputs_of, op_of, shape_of}
-use Rattle.plan_arena.specs.Items.{expression_layer, plan_layer, HoldsExpression, HoldsFrom, DenoteNamed, DenotesKind, DenotesOp, HoldsPlan, DenotesItem, HasInputs, Grows}
+use Rattle.plan_arena.specs.Items.{expression_layer, plan_layer, HoldsExpression, HoldsFrom, DenoteNamed, DenoteLists, DenotesKind, DenotesOp, HoldsPlan, DenotesItem, HasInputs, Grows}
 use Rattle.plan_arena.specs.declared.aexpr.AExpr.{AExpr}
 use Rattle.plan_arena.specs.declared.ir.IR.{IR}
 use Rattle.plan_arena.specs.declared.ir.IR.TheVariants.{DataFrameScan, Filter, GroupBy, HStack, Select, SimpleProjection, Invalid}
@@ -81,23 +81,53 @@ named_one items [] [] (y ∷ ys) d e = absurd e
 named_one items (n ∷ ns) [] fs d e = absurd d
 named_one items (n ∷ ns) (x ∷ xs) [] d e = absurd e
 
-list_one : {A : Type 0} (x y : A) → x ∷ [] ≡ y ∷ [] → x ≡ y
-list_one x y e = cc
+lists_one : (items : List AExpr) (nodes : List (List (Named ℕ))) (es fs : List (List (Named Expression))) → DenoteLists items nodes es → DenoteLists items nodes fs → es ≡ fs
+lists_one items [] [] [] d e = refl
+lists_one items (ns ∷ nodes) (xs ∷ es) (ys ∷ fs) d e =
+    let first = named_one items ns xs ys d.0 e.0 in
+    let later = lists_one items nodes es fs d.1 e.1 in
+    λ i. first i ∷ later i
+lists_one items [] (xs ∷ es) fs d e = absurd d
+lists_one items [] [] (ys ∷ fs) d e = absurd e
+lists_one items (ns ∷ nodes) [] fs d e = absurd d
+lists_one items (ns ∷ nodes) (xs ∷ es) [] d e = absurd e
 
 -- a kind over nodes is that of one kind over expressions
 kind_one : (items : List AExpr) (flat : PlanKind (Named ℕ)) (a b : PlanKind (Named Expression)) → DenotesKind items flat a → DenotesKind items flat b → a ≡ b
 kind_one items (ScanKind table schema) a b d e = d ∙ sym e
-kind_one items (SelectKind nodes) a b d e = d.1 ∙ ap SelectKind (named_one items nodes d.0 e.0 d.2 e.2) ∙ sym e.1
-kind_one items (HStackKind nodes) a b d e = d.1 ∙ ap HStackKind (named_one items nodes d.0 e.0 d.2 e.2) ∙ sym e.1
-kind_one items (GroupByKind keys aggs) a b d e =
-    let first = named_one items keys d.0 e.0 d.3 e.3 in
-    let later = named_one items aggs d.1 e.1 d.4 e.4 in
-    d.2 ∙ (λ i. GroupByKind (first i) (later i)) ∙ sym e.2
-kind_one items (FilterKind n) a b d e =
-    d.1 ∙ ap FilterKind (list_one d.0 e.0 (named_one items (n ∷ []) (d.0 ∷ []) (e.0 ∷ []) d.2 e.2)) ∙ sym e.1
-kind_one items (SimpleProjectionKind columns) a b d e = d ∙ sym e
-kind_one items (DropKind selectors strict) a b d e = absurd d
+kind_one items (OverKind work nodes) a b d e = d.1 ∙ ap (OverKind work) (lists_one items nodes d.0 e.0 d.2 e.2) ∙ sym e.1
 kind_one items (RefusedKind kinds) a b d e = absurd d
+
+-- what nodes over one list denote is over one list, over two over two, and a filter by one node is one by one predicate
+pub list_denoted : (items : List AExpr) (work : Work) (nodes : List (Named ℕ)) (kind : PlanKind (Named Expression)) → DenotesKind items (OverKind work (nodes ∷ [])) kind → (outputs : List (Named Expression)) × (kind ≡ OverKind work (outputs ∷ [])) × DenoteNamed items nodes outputs
+list_denoted items work nodes kind (outputs ∷ [], e, d) = (outputs, e, d.0)
+list_denoted items work nodes kind ([], e, d) = absurd d
+list_denoted items work nodes kind (outputs ∷ others ∷ lists, e, d) = absurd d.1
+
+pub two_denoted : (items : List AExpr) (work : Work) (nodes others : List (Named ℕ)) (kind : PlanKind (Named Expression)) → DenotesKind items (OverKind work (nodes ∷ others ∷ [])) kind → (outputs : List (Named Expression)) × (behind : List (Named Expression)) × (kind ≡ OverKind work (outputs ∷ behind ∷ [])) × DenoteNamed items nodes outputs × DenoteNamed items others behind
+two_denoted items work nodes others kind (outputs ∷ behind ∷ [], e, d) = (outputs, behind, e, d.0, d.1.0)
+two_denoted items work nodes others kind ([], e, d) = absurd d
+two_denoted items work nodes others kind (outputs ∷ [], e, d) = absurd d.1
+two_denoted items work nodes others kind (outputs ∷ behind ∷ more_lists ∷ lists, e, d) = absurd d.1.1
+
+one_named : (items : List AExpr) (n : Named ℕ) (outputs : List (Named Expression)) → DenoteNamed items (n ∷ []) outputs → (e : Named Expression) × (outputs ≡ e ∷ []) × DenoteNamed items (n ∷ []) (e ∷ [])
+one_named items n (e ∷ []) d = (e, refl, d)
+one_named items n [] d = absurd d
+one_named items n (e ∷ other ∷ outputs) d = absurd d.2
+
+abbrev pub DenotesFilter : List AExpr → Named ℕ → PlanKind (Named Expression) → Type 0
+DenotesFilter items n kind = (predicate : Named Expression) × (kind ≡ FilterKind predicate) × DenoteNamed items (n ∷ []) (predicate ∷ [])
+
+pub filter_denoted : (items : List AExpr) (n : Named ℕ) (kind : PlanKind (Named Expression)) → DenotesKind items (FilterKind n) kind → DenotesFilter items n kind
+filter_denoted items n kind d =
+    let only = list_denoted items FilterWork (n ∷ []) kind d in
+    let one = one_named items n only.0 only.2 in
+    (one.0, only.1 ∙ ap (λ l. OverKind FilterWork (l ∷ [])) one.1, one.2)
+
+-- what nodes over no list denote is the same
+pub none_denoted : (items : List AExpr) (work : Work) (kind : PlanKind (Named Expression)) → DenotesKind items (OverKind work []) kind → kind ≡ OverKind work []
+none_denoted items work kind ([], e, d) = e
+none_denoted items work kind (outputs ∷ lists, e, d) = absurd d
 
 op_one : (items : List AExpr) (flat : PlanOp (Named ℕ)) (a b : PlanOp (Named Expression)) → DenotesOp items flat a → DenotesOp items flat b → a ≡ b
 op_one items flat a b d e =
@@ -123,15 +153,16 @@ named_kept items items' keeps (n ∷ ns) (e ∷ es) d =
 named_kept items items' keeps [] (e ∷ es) d = absurd d
 named_kept items items' keeps (n ∷ ns) [] d = absurd d
 
+pub lists_kept : (items items' : List AExpr) → ((n : ℕ) (op : Op) (inputs : List ℕ) → HoldsExpression items n op inputs → HoldsExpression items' n op inputs) → (nodes : List (List (Named ℕ))) (lists : List (List (Named Expression))) → DenoteLists items nodes lists → DenoteLists items' nodes lists
+lists_kept items items' keeps [] [] d = tt
+lists_kept items items' keeps (ns ∷ nodes) (es ∷ lists) d = (named_kept items items' keeps ns es d.0, lists_kept items items' keeps nodes lists d.1)
+lists_kept items items' keeps [] (es ∷ lists) d = absurd d
+lists_kept items items' keeps (ns ∷ nodes) [] d = absurd d
+
 -- and so does a kind over nodes
 kind_kept : (items items' : List AExpr) → ((n : ℕ) (op : Op) (inputs : List ℕ) → HoldsExpression items n op inputs → HoldsExpression items' n op inputs) → (flat : PlanKind (Named ℕ)) (kind : PlanKind (Named Expression)) → DenotesKind items flat kind → DenotesKind items' flat kind
 kind_kept items items' keeps (ScanKind table schema) kind d = d
-kind_kept items items' keeps (SelectKind nodes) kind d = (d.0, d.1, named_kept items items' keeps nodes d.0 d.2)
-kind_kept items items' keeps (HStackKind nodes) kind d = (d.0, d.1, named_kept items items' keeps nodes d.0 d.2)
-kind_kept items items' keeps (GroupByKind keys aggs) kind d = (d.0, d.1, d.2, named_kept items items' keeps keys d.0 d.3, named_kept items items' keeps aggs d.1 d.4)
-kind_kept items items' keeps (FilterKind n) kind d = (d.0, d.1, named_kept items items' keeps (n ∷ []) (d.0 ∷ []) d.2)
-kind_kept items items' keeps (SimpleProjectionKind columns) kind d = d
-kind_kept items items' keeps (DropKind selectors strict) kind d = absurd d
+kind_kept items items' keeps (OverKind work nodes) kind d = (d.0, d.1, lists_kept items items' keeps nodes d.0 d.2)
 kind_kept items items' keeps (RefusedKind kinds) kind d = absurd d
 
 -- a new plan item is there

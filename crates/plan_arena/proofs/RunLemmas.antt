@@ -7,19 +7,18 @@ use Rattle.plan_types.specs.Frames.{Frame, IsFrameOf}
 use Rattle.plan_dsl.specs.Registry.{Registry}
 use Rattle.plan_dsl.specs.Trees.{Trees, node, no_more, more, fold_all}
 use Rattle.plan_dsl.specs.Ops.{Expression}
-use Rattle.plan_dsl.specs.Plans.{Named, PlanKind, ScanKind, SelectKind, HStackKind, GroupByKind, FilterKind, PlanOp, Plan, expressions_of, own_scans, scans_in}
+use Rattle.plan_dsl.specs.Plans.{Named, Work, PlanKind, ScanKind, OverKind, PlanOp, Plan, over_input, expressions_of, own_scans, scans_in}
 use Rattle.plan_dsl.specs.Typing.{typing}
 use Rattle.plan_dsl.specs.Kernels.{Meaning}
 use Rattle.plan_dsl.specs.Meaning.{meaning}
-use Rattle.plan_dsl.specs.PlanRules.{input_schema, schema_of, schemas_of}
-use Rattle.plan_dsl.specs.Grouping.{grouped}
-use Rattle.plan_dsl.specs.PlanKernels.{Evaluated, selected, hstacked, filtered, plan_kernel, frame_by}
+use Rattle.plan_dsl.specs.PlanRules.{schema_of, schemas_of}
+use Rattle.plan_dsl.specs.PlanKernels.{Evaluated, over_frame, plan_kernel, frame_by}
 use Rattle.plan_dsl.specs.PlanMeaning.{by_meaning, HasTables, FitsPlan, MeetsWhere}
 use Rattle.plan_dsl.proofs.FrameLemmas.{AllMeet, front_tables, back_tables, scans_below, kernel_meets}
-use Rattle.plan_dsl.proofs.KernelLemmas.{AgreeOn, selected_agrees, hstacked_agrees, grouped_agrees, filtered_agrees}
+use Rattle.plan_dsl.proofs.KernelLemmas.{AgreeOn, ListsAgreeOn, lists_agree, over_agrees}
 use Rattle.plan_dsl.proofs.LiteralLemmas.{strict_settled}
 use Rattle.plan_dsl.proofs.RunLemmas.{strict_is_meaning}
-use Rattle.plan_arena.specs.Runs.{own_schema, IsStrictCore, HasRecorded, IsAccepted, AllAccepted, AreStrictOver, AreStrict, IsStrictPlan, AllStrictPlans, by_running, plan_run, RunsSoundly, AllRunSoundly}
+use Rattle.plan_arena.specs.Runs.{own_schema, IsStrictCore, HasRecorded, IsAccepted, AllAccepted, AreStrict, IsStrictPlan, AllStrictPlans, by_running, plan_run, RunsSoundly, AllRunSoundly}
 
 abbrev evaluated_as : Registry → Columns → Named Expression → Meaning → Evaluated
 evaluated_as registry schema output gives = record { name = output.label.name; typing = typing registry schema output.expression; gives = gives }
@@ -40,43 +39,22 @@ module _ (registry : Registry) where
   only_input [] o h = absurd h
   only_input (schema ∷ other ∷ schemas) o h = absurd h.1
 
-  select_runs : (outputs : List (Named Expression)) (schema : Option Columns) (o : Outcome Frame) → AreStrictOver registry schema outputs → MeetsWhere schema o → selected (by_running registry) outputs o ≡ selected (by_meaning registry) outputs o
-  select_runs outputs None o strict meets = absurd meets
-  select_runs outputs (Some schema) o strict meets =
-      selected_agrees (by_running registry) (by_meaning registry) outputs outputs schema o refl (strict_agree schema outputs strict) meets
+  strict_lists : (schema : Columns) (lists : List (List (Named Expression))) → AreStrict registry (Some schema ∷ []) (map (over_input 0) lists) → ListsAgreeOn schema (by_running registry) (by_meaning registry) lists lists
+  strict_lists schema [] strict rows is = refl
+  strict_lists schema (outputs ∷ lists) strict rows is =
+      lists_agree schema (by_running registry) (by_meaning registry) outputs outputs lists lists (strict_agree schema outputs strict.0) (strict_lists schema lists strict.1) rows is
 
-  hstack_runs : (outputs : List (Named Expression)) (schema : Option Columns) (o : Outcome Frame) → AreStrictOver registry schema outputs → MeetsWhere schema o → hstacked (by_running registry) outputs o ≡ hstacked (by_meaning registry) outputs o
-  hstack_runs outputs None o strict meets = absurd meets
-  hstack_runs outputs (Some schema) o strict meets =
-      hstacked_agrees (by_running registry) (by_meaning registry) outputs outputs schema o (strict_agree schema outputs strict) meets
-
-  groups_run : (keys aggs : List (Named Expression)) (schema : Option Columns) (o : Outcome Frame) → AreStrictOver registry schema keys → AreStrictOver registry schema aggs → MeetsWhere schema o → grouped (by_running registry) keys aggs o ≡ grouped (by_meaning registry) keys aggs o
-  groups_run keys aggs None o strict also meets = absurd meets
-  groups_run keys aggs (Some schema) o strict also meets =
-      grouped_agrees (by_running registry) (by_meaning registry) keys keys aggs aggs schema o (strict_agree schema keys strict) (strict_agree schema aggs also) meets
-
-  filter_runs : (predicate : Named Expression) (schema : Option Columns) (o : Outcome Frame) → AreStrictOver registry schema (predicate ∷ []) → MeetsWhere schema o → filtered (by_running registry) predicate o ≡ filtered (by_meaning registry) predicate o
-  filter_runs predicate None o strict meets = absurd meets
-  filter_runs predicate (Some schema) o strict meets =
-      filtered_agrees (by_running registry) (by_meaning registry) predicate predicate schema o (strict_agree schema (predicate ∷ []) strict) meets
+  over_runs : (work : Work) (lists : List (List (Named Expression))) (schema : Option Columns) (o : Outcome Frame) → AreStrict registry (schema ∷ []) (map (over_input 0) lists) → MeetsWhere schema o → over_frame (by_running registry) work lists o ≡ over_frame (by_meaning registry) work lists o
+  over_runs work lists None o strict meets = absurd meets
+  over_runs work lists (Some schema) o strict meets =
+      over_agrees work (by_running registry) (by_meaning registry) lists lists schema o refl (strict_lists schema lists strict) meets
 
   -- a strict node gives what it means
   strict_node : (tables : List Frame) (kind : PlanKind (Named Expression)) (schemas : List (Option Columns)) (outcomes : List (Outcome Frame)) → AreStrict registry schemas (expressions_of kind) → AllMeet schemas outcomes → frame_by kind tables (by_running registry) outcomes ≡ frame_by kind tables (by_meaning registry) outcomes
   strict_node tables (ScanKind table schema) schemas [] strict meet = refl
-  strict_node tables (SelectKind outputs) schemas (o ∷ []) strict meet =
+  strict_node tables (OverKind work lists) schemas (o ∷ []) strict meet =
       let under = only_input schemas o meet in
-      select_runs outputs under.0 o (subst (λ s. AreStrictOver registry (input_schema s 0) outputs) under.1 strict.0) under.2
-  strict_node tables (HStackKind outputs) schemas (o ∷ []) strict meet =
-      let under = only_input schemas o meet in
-      hstack_runs outputs under.0 o (subst (λ s. AreStrictOver registry (input_schema s 0) outputs) under.1 strict.0) under.2
-  strict_node tables (GroupByKind keys aggs) schemas (o ∷ []) strict meet =
-      let under = only_input schemas o meet in
-      let first = subst (λ s. AreStrictOver registry (input_schema s 0) keys) under.1 strict.0 in
-      let later = subst (λ s. AreStrictOver registry (input_schema s 0) aggs) under.1 strict.1.0 in
-      groups_run keys aggs under.0 o first later under.2
-  strict_node tables (FilterKind predicate) schemas (o ∷ []) strict meet =
-      let under = only_input schemas o meet in
-      filter_runs predicate under.0 o (subst (λ s. AreStrictOver registry (input_schema s 0) (predicate ∷ [])) under.1 strict.0) under.2
+      over_runs work lists under.0 o (subst (λ s. AreStrict registry s (map (over_input 0) lists)) under.1 strict) under.2
   strict_node tables kind schemas outcomes strict meet = refl
 
   recorded_there : (recorded found : Option Columns) → HasRecorded recorded found → (schema : Columns) × (found ≡ Some schema)

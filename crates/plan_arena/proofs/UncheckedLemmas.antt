@@ -1,5 +1,5 @@
 -- Plans whose predicates' types aren't checked: their schemas are those that are recorded, with any arena of expressions.
-use Rattle.std.proofs.Common.{◌≡◌, ℕ, List, [], ◌∷◌, ◌++◌, map, IsTrue, Option, Some, None, is_some, option_map, slice_get, refl, sym, ap, ◌∙◌, subst}
+use Rattle.std.proofs.Common.{◌≡◌, ℕ, List, [], ◌∷◌, ◌++◌, map, IsTrue, true, Option, Some, None, is_some, option_map, slice_get, refl, sym, ap, ◌∙◌, subst}
 use Rattle.std.specs.List.{AllByRecursion}
 use Rattle.std.proofs.lemmas.Option.{slice_get-map}
 use Rattle.plan_types.specs.Schemas.{Columns, columns}
@@ -7,8 +7,9 @@ use Rattle.plan_types.specs.declared.error.ErrorKind.{ErrorKind}
 use Rattle.plan_dsl.specs.Registry.{Registry}
 use Rattle.plan_dsl.specs.Trees.{Trees, node, no_more, more, fold_all}
 use Rattle.plan_dsl.specs.Ops.{Expression}
-use Rattle.plan_dsl.specs.Plans.{Named, PlanKind, FilterKind, PlanOp, Plan, expressions_of, filter_op}
-use Rattle.plan_dsl.specs.PlanRules.{expression_kinds, input_schema, own_kinds, plan_rule, schema_by, schema_of, schemas_of, where_unbroken}
+use Rattle.plan_dsl.specs.Plans.{Named, Work, FilterWork, PlanKind, OverKind, PlanOp, Plan, expressions_of, over_op, filter_op}
+use Rattle.plan_dsl.specs.PlanRules.{TypedOutput, all_type_kinds, expression_kinds, input_schema, keeps_schema, own_kinds, plan_rule, schema_by, schema_of, schemas_of, typed_lists, where_unbroken, work_schema}
+use Rattle.plan_dsl.proofs.RuleLemmas.{kept_schemas}
 use Rattle.plan_arena.specs.declared.aexpr.AExpr.{AExpr}
 use Rattle.plan_arena.specs.declared.ir.IR.{IR}
 use Rattle.plan_arena.specs.declared.ir.IR.TheVariants.{DataFrameScan, Filter, GroupBy, HStack, Select, SimpleProjection, Invalid}
@@ -53,20 +54,23 @@ unbroken_is : (kinds : List ErrorKind) (schema : Option Columns) → IsTrue (is_
 unbroken_is [] schema h = refl
 unbroken_is (kind ∷ kinds) schema h = absurd cc
 
-abbrev filter_by : Named Expression → Option Columns → PlanOp (Named Expression)
-filter_by predicate recorded = record { kind = FilterKind predicate; recorded = recorded }
+kept_schema : (work : Work) → keeps_schema work ≡ true → (schema : Columns) (outputs : Option (List (List TypedOutput))) → IsTrue (is_some (option_map (work_schema work schema) outputs)) → option_map (work_schema work schema) outputs ≡ Some schema
+kept_schema work keeps schema None h = absurd cc
+kept_schema work keeps schema (Some outputs) h = ap Some (kept_schemas work keeps schema outputs)
 
-filtered_schema : (registry : Registry) (predicate : Named Expression) (recorded : Option Columns) (schema : Option Columns) → IsTrue (is_some (unchecked_rule registry (filter_by predicate recorded) (schema ∷ []))) → unchecked_rule registry (filter_by predicate recorded) (schema ∷ []) ≡ schema
-filtered_schema registry predicate recorded None h = unbroken_is (unchecked_kinds registry (filter_by predicate recorded) (None ∷ [])) None h
-filtered_schema registry predicate recorded (Some schema) h =
-    unbroken_is (unchecked_kinds registry (filter_by predicate recorded) (Some schema ∷ [])) (Some schema) h
+has_kept : (registry : Registry) (work : Work) → keeps_schema work ≡ true → (lists : List (List (Named Expression))) (recorded schema : Option Columns) → IsTrue (is_some (unchecked_rule registry (over_op work lists recorded) (schema ∷ []))) → unchecked_rule registry (over_op work lists recorded) (schema ∷ []) ≡ schema
+has_kept registry work keeps lists recorded None h = unbroken_is (unchecked_kinds registry (over_op work lists recorded) (None ∷ [])) None h
+has_kept registry work keeps lists recorded (Some schema) h =
+    let found = option_map (work_schema work schema) (typed_lists registry schema lists) in
+    let same = unbroken_is (unchecked_kinds registry (over_op work lists recorded) (Some schema ∷ [])) found h in
+    same ∙ kept_schema work keeps schema (typed_lists registry schema lists) (subst (λ o. IsTrue (is_some o)) same h)
 
--- a filter that has a schema has that of its input
-filter_keeps : (registry : Registry) (op : PlanOp (Named Expression)) (predicate : Named Expression) → op.kind ≡ FilterKind predicate → (schema : Option Columns) → IsTrue (is_some (unchecked_rule registry op (schema ∷ []))) → unchecked_rule registry op (schema ∷ []) ≡ schema
-filter_keeps registry op predicate kind schema h =
-    let rule : unchecked_rule registry op (schema ∷ []) ≡ unchecked_rule registry (filter_by predicate op.recorded) (schema ∷ []) =
+-- a node that keeps its input's schema has that, where it has one
+keeps_inputs : (registry : Registry) (op : PlanOp (Named Expression)) (work : Work) (lists : List (List (Named Expression))) → keeps_schema work ≡ true → op.kind ≡ OverKind work lists → (schema : Option Columns) → IsTrue (is_some (unchecked_rule registry op (schema ∷ []))) → unchecked_rule registry op (schema ∷ []) ≡ schema
+keeps_inputs registry op work lists keeps kind schema h =
+    let rule : unchecked_rule registry op (schema ∷ []) ≡ unchecked_rule registry (over_op work lists op.recorded) (schema ∷ []) =
     ap (λ (k : PlanKind (Named Expression)). unchecked_rule registry (record { kind = k; recorded = op.recorded }) (schema ∷ [])) kind in
-    rule ∙ filtered_schema registry predicate op.recorded schema (subst (λ o. IsTrue (is_some o)) rule h)
+    rule ∙ has_kept registry work keeps lists op.recorded schema (subst (λ o. IsTrue (is_some o)) rule h)
 
 -- what is recorded is one of two: a node's own, or that of its input
 by_recorded : (r found first : Option Columns) → HasRecorded r found → (r ≡ None → first ≡ found) → own_schema r first ≡ found
@@ -79,34 +83,34 @@ module _ (expressions : List AExpr) where
       let some : Some own ≡ None = sym recorded ∙ ap (λ (l : Layer (PlanOp (Named ℕ))). (op_of l).recorded) is ∙ d.same_recorded ∙ none in
       cc
 
-  -- only a filter records none, and has one input
-  is_filter : (item : IR) (flat : PlanOp (Named ℕ)) (ns : List ℕ) (op : PlanOp (Named Expression)) → plan_layer item ≡ layer flat ns → DenotesOp expressions flat op → op.recorded ≡ None → (predicate : Named Expression) × (m : ℕ) × (op.kind ≡ FilterKind predicate) × (ns ≡ m ∷ [])
-  is_filter (Filter input predicate) flat ns op is d none =
+  -- an item that records none keeps the schema of its only input
+  keeps_its : (item : IR) (flat : PlanOp (Named ℕ)) (ns : List ℕ) (op : PlanOp (Named Expression)) → plan_layer item ≡ layer flat ns → DenotesOp expressions flat op → op.recorded ≡ None → (work : Work) × (lists : List (List (Named Expression))) × (m : ℕ) × (keeps_schema work ≡ true) × (op.kind ≡ OverKind work lists) × (ns ≡ m ∷ [])
+  keeps_its (Filter input predicate) flat ns op is d none =
       let kind = subst (λ (f : PlanOp (Named ℕ)). DenotesKind expressions f.kind op.kind) (sym (layer_op (filter_op (named_node predicate)) flat (input.0 ∷ []) ns is)) d.kind in
-      (kind.0, input.0, kind.1, sym (layer_inputs (filter_op (named_node predicate)) flat (input.0 ∷ []) ns is))
-  is_filter (DataFrameScan table schema) flat ns op is d none = absurd (records _ (columns schema) flat ns op is refl d none)
-  is_filter (GroupBy input keys aggs schema maintain_order) flat ns op is d none = absurd (records _ (columns schema) flat ns op is refl d none)
-  is_filter (HStack exprs input schema options) flat ns op is d none = absurd (records _ (columns schema) flat ns op is refl d none)
-  is_filter (Select expr input schema options) flat ns op is d none = absurd (records _ (columns schema) flat ns op is refl d none)
-  is_filter (SimpleProjection input schema) flat ns op is d none = absurd (records _ (columns schema) flat ns op is refl d none)
-  is_filter Invalid flat ns op is d none = absurd (is_valid expressions Invalid flat ns op is d refl)
+      (FilterWork, kind.0, input.0, refl, kind.1, sym (layer_inputs (filter_op (named_node predicate)) flat (input.0 ∷ []) ns is))
+  keeps_its (DataFrameScan table schema) flat ns op is d none = absurd (records _ (columns schema) flat ns op is refl d none)
+  keeps_its (GroupBy input keys aggs schema maintain_order) flat ns op is d none = absurd (records _ (columns schema) flat ns op is refl d none)
+  keeps_its (HStack exprs input schema options) flat ns op is d none = absurd (records _ (columns schema) flat ns op is refl d none)
+  keeps_its (Select expr input schema options) flat ns op is d none = absurd (records _ (columns schema) flat ns op is refl d none)
+  keeps_its (SimpleProjection input schema) flat ns op is d none = absurd (records _ (columns schema) flat ns op is refl d none)
+  keeps_its Invalid flat ns op is d none = absurd (is_valid expressions Invalid flat ns op is d refl)
 
   item_of : (found : Option IR) (l : Layer (PlanOp (Named ℕ))) → option_map plan_layer found ≡ Some l → (item : IR) × (plan_layer item ≡ l)
   item_of None l e = cc
   item_of (Some item) l e = let is : plan_layer item ≡ l = cc in (item, is)
 
   module _ (plans : List IR) (registry : Registry) where
-    filtered : (op : PlanOp (Named Expression)) (predicate : Named Expression) → op.kind ≡ FilterKind predicate → (m : ℕ) (ts : Trees (PlanOp (Named Expression))) → DenoteAll (HoldsPlan expressions plans) (m ∷ []) ts → IsTrue (is_some (unchecked_schema registry (node op ts))) → input_schema (fold_all (unchecked_rule registry) ts) 0 ≡ unchecked_schema registry (node op ts)
-    filtered op predicate kind m (more t no_more) d there = sym (filter_keeps registry op predicate kind (unchecked_schema registry t) there)
-    filtered op predicate kind m no_more d there = absurd d
-    filtered op predicate kind m (more t (more u us)) d there = absurd d.1
+    kept_over : (op : PlanOp (Named Expression)) (work : Work) (lists : List (List (Named Expression))) → keeps_schema work ≡ true → op.kind ≡ OverKind work lists → (m : ℕ) (ts : Trees (PlanOp (Named Expression))) → DenoteAll (HoldsPlan expressions plans) (m ∷ []) ts → IsTrue (is_some (unchecked_schema registry (node op ts))) → input_schema (fold_all (unchecked_rule registry) ts) 0 ≡ unchecked_schema registry (node op ts)
+    kept_over op work lists keeps kind m (more t no_more) d there = sym (keeps_inputs registry op work lists keeps kind (unchecked_schema registry t) there)
+    kept_over op work lists keeps kind m no_more d there = absurd d
+    kept_over op work lists keeps kind m (more t (more u us)) d there = absurd d.1
 
     -- an item, where its first input has the schema that is recorded of it
     by_first : (item : IR) (op : PlanOp (Named Expression)) (ts : Trees (PlanOp (Named Expression))) → DenotesItem expressions plans item (node op ts) → HasRecorded op.recorded (unchecked_schema registry (node op ts)) → input_schema (fold_all recorded_over ts) 0 ≡ input_schema (fold_all (unchecked_rule registry) ts) 0 → schema_recorded (node op ts) ≡ unchecked_schema registry (node op ts)
     by_first item op ts d has first =
         by_recorded op.recorded (unchecked_schema registry (node op ts)) (input_schema (fold_all recorded_over ts) 0) has (λ none.
-        let f = is_filter item d.1.flat d.0 op d.1.is d.1.denotes none in
-        first ∙ filtered op f.0 f.2 f.1 ts (subst (λ ns. DenoteAll (HoldsPlan expressions plans) ns ts) f.3 d.2) (has_some op.recorded _ has))
+        let f = keeps_its item d.1.flat d.0 op d.1.is d.1.denotes none in
+        first ∙ kept_over op f.0 f.1 f.3 f.4 f.2 ts (subst (λ ns. DenoteAll (HoldsPlan expressions plans) ns ts) f.5 d.2) (has_some op.recorded _ has))
 
     mutual
       -- a plan that keeps the other rules has the schema that is recorded of it
@@ -155,7 +159,7 @@ unbroken_none [] schema h = refl
 unbroken_none (kind ∷ kinds) schema h = absurd cc
 
 own_none : (registry : Registry) (kind : PlanKind (Named Expression)) (inputs : List (Option Columns)) → own_kinds registry kind inputs ≡ [] → unchecked_own_kinds registry kind inputs ≡ []
-own_none registry (FilterKind predicate) (Some schema ∷ []) e = refl
+own_none registry (OverKind work lists) (Some schema ∷ []) e = (none_of (all_type_kinds registry work schema lists) _ e).1
 own_none registry kind inputs e = e
 
 -- a node that has a schema has it unchecked
@@ -192,22 +196,22 @@ module _ (registry : Registry) where
   into_accepted expressions plans kind ns (more t ts) d accepted =
       into_is expressions plans registry kind ns (more t ts) d (all_accepted_keep (more t ts) accepted).0 ∙ (accepted_keeps t accepted.0).1
 
-  -- a filter's item, whose input is known
-  module _ (expressions : List AExpr) (plans : List IR) (item : IR) (predicate : Named ℕ) (n : ℕ) (is : plan_layer item ≡ layer (filter_op predicate) (n ∷ [])) where
-    filter_children : (op : PlanOp (Named Expression)) (e : Named Expression) → op.kind ≡ FilterKind e → (ts : Trees (PlanOp (Named Expression))) → DenoteAll (HoldsPlan expressions plans) (n ∷ []) ts → IsAccepted registry (node op ts) → (t : Plan) × Denotes (HoldsPlan expressions plans) n t × IsAccepted registry t × (schema_of registry (node op ts) ≡ schema_of registry t)
-    filter_children op e kind (more t no_more) d accepted =
-        let keeps = accepted_keeps (node op (more t no_more)) accepted in
+  -- an item that keeps its input's schema, whose input is known
+  module _ (expressions : List AExpr) (plans : List IR) (item : IR) (work : Work) (keeps : keeps_schema work ≡ true) (nodes : List (List (Named ℕ))) (recorded : Option Columns) (n : ℕ) (is : plan_layer item ≡ layer (over_op work nodes recorded) (n ∷ [])) where
+    kept_children : (op : PlanOp (Named Expression)) (lists : List (List (Named Expression))) → op.kind ≡ OverKind work lists → (ts : Trees (PlanOp (Named Expression))) → DenoteAll (HoldsPlan expressions plans) (n ∷ []) ts → IsAccepted registry (node op ts) → (t : Plan) × Denotes (HoldsPlan expressions plans) n t × IsAccepted registry t × (schema_of registry (node op ts) ≡ schema_of registry t)
+    kept_children op lists kind (more t no_more) d accepted =
+        let all = accepted_keeps (node op (more t no_more)) accepted in
         let below = accepted_keeps t accepted.1.0 in
-        (t, d.0, accepted.1.0, sym keeps.1 ∙ filter_keeps registry op e kind (unchecked_schema registry t) (has_some op.recorded _ keeps.0.0) ∙ below.1)
-    filter_children op e kind no_more d accepted = absurd d
-    filter_children op e kind (more t (more u ts)) d accepted = absurd d.1
+        (t, d.0, accepted.1.0, sym all.1 ∙ keeps_inputs registry op work lists keeps kind (unchecked_schema registry t) (has_some op.recorded _ all.0.0) ∙ below.1)
+    kept_children op lists kind no_more d accepted = absurd d
+    kept_children op lists kind (more t (more u ts)) d accepted = absurd d.1
 
     -- an accepted one has the schema of its input
-    pub filter_item : (t : Plan) → DenotesItem expressions plans item t → IsAccepted registry t → (u : Plan) × Denotes (HoldsPlan expressions plans) n u × IsAccepted registry u × (schema_of registry t ≡ schema_of registry u)
-    filter_item (node op ts) d accepted =
+    pub kept_item : (t : Plan) → DenotesItem expressions plans item t → IsAccepted registry t → (u : Plan) × Denotes (HoldsPlan expressions plans) n u × IsAccepted registry u × (schema_of registry t ≡ schema_of registry u)
+    kept_item (node op ts) d accepted =
         let same = sym d.1.is ∙ is in
-        let kind = subst (λ (f : PlanOp (Named ℕ)). DenotesKind expressions f.kind op.kind) (layer_op d.1.flat (filter_op predicate) d.0 (n ∷ []) same) d.1.denotes.kind in
-        filter_children op kind.0 kind.1 ts (subst (λ ns. DenoteAll (HoldsPlan expressions plans) ns ts) (layer_inputs d.1.flat (filter_op predicate) d.0 (n ∷ []) same) d.2) accepted
+        let kind = subst (λ (f : PlanOp (Named ℕ)). DenotesKind expressions f.kind op.kind) (layer_op d.1.flat (over_op work nodes recorded) d.0 (n ∷ []) same) d.1.denotes.kind in
+        kept_children op kind.0 kind.1 ts (subst (λ ns. DenoteAll (HoldsPlan expressions plans) ns ts) (layer_inputs d.1.flat (over_op work nodes recorded) d.0 (n ∷ []) same) d.2) accepted
 
   -- an accepted plan's node has its schema so
   pub accepted_schema : (expressions : List AExpr) (plans : List IR) (n : ℕ) (t : Plan) (schema : Columns) → Denotes (HoldsPlan expressions plans) n t → IsAccepted registry t → schema_of registry t ≡ Some schema → HasUncheckedSchema registry plans n schema

@@ -9,7 +9,7 @@ use Rattle.plan_dsl.specs.Ops.{Op, ColumnOp, BinaryOp, CastOp, LenOp, SliceOp, A
 use Rattle.plan_dsl.specs.declared.sort_options.SortOptions.{SortOptions}
 use Rattle.plan_dsl.specs.Literals.{literal_op}
 use Rattle.plan_dsl.specs.Names.{Label, FromField, FromNothing, alias_label, column_label, literal_label}
-use Rattle.plan_dsl.specs.Plans.{PlanKind, ScanKind, SelectKind, HStackKind, GroupByKind, FilterKind, SimpleProjectionKind, DropKind, RefusedKind, PlanOp, Plan, Named, scan_op, select_op, hstack_op, group_by_op, filter_op, simple_projection_op}
+use Rattle.plan_dsl.specs.Plans.{Work, SelectWork, HStackWork, GroupByWork, FilterWork, SimpleProjectionWork, DropWork, SliceWork, SortWork, DistinctWork, PassWork, CachePass, SinkPass, RechunkPass, PlanKind, ScanKind, OverKind, RefusedKind, PlanOp, Plan, Named, scan_op, select_op, hstack_op, group_by_op, filter_op, simple_projection_op}
 use Rattle.plan_arena.specs.Aggregates.{input_at, method_at}
 use Rattle.plan_arena.specs.Denotation.{Denotes, DenoteAll, DenotesTree}
 use Rattle.plan_arena.specs.Layers.{Layer, layer, op_of, inputs_of}
@@ -98,15 +98,25 @@ plan_layer (Filter input predicate) = layer (filter_op (named_node predicate)) (
 plan_layer (SimpleProjection input schema) = layer (simple_projection_op (columns schema) (Some (columns schema))) (input.0 ∷ [])
 plan_layer Invalid = layer (record { kind = RefusedKind []; recorded = None }) []
 
--- what a report calls a node of the kind. No item is a drop
+-- What a report calls a node over one input, and a node of the kind. No item is a drop, and none yet a slice, a sort, a distinct or
+-- what passes rows on.
+abbrev pub work_text : Work → List ℕ
+work_text SelectWork = codes "projection"
+work_text HStackWork = codes "hstack"
+work_text GroupByWork = codes "aggregate"
+work_text FilterWork = codes "selection"
+work_text (SimpleProjectionWork columns) = codes "simple_projection"
+work_text (DropWork strict) = codes "invalid"
+work_text (SliceWork offset count) = codes "slice"
+work_text (SortWork descending nulls_last) = codes "sort"
+work_text (DistinctWork keep subset) = codes "distinct"
+work_text (PassWork (CachePass id)) = codes "cache"
+work_text (PassWork SinkPass) = codes "sink (memory)"
+work_text (PassWork RechunkPass) = codes "map_function"
+
 abbrev pub kind_text : {E : Type 0} → PlanKind E → List ℕ
 kind_text (ScanKind table schema) = codes "df"
-kind_text (SelectKind outputs) = codes "projection"
-kind_text (HStackKind outputs) = codes "hstack"
-kind_text (GroupByKind keys aggs) = codes "aggregate"
-kind_text (FilterKind predicate) = codes "selection"
-kind_text (SimpleProjectionKind columns) = codes "simple_projection"
-kind_text (DropKind selectors strict) = codes "invalid"
+kind_text (OverKind work lists) = work_text work
 kind_text (RefusedKind kinds) = codes "invalid"
 
 abbrev pub node_name : IR → List ℕ
@@ -127,20 +137,18 @@ DenoteNamed expressions (n ∷ ns) (e ∷ es) = (n.label ≡ e.label) × Denotes
 DenoteNamed expressions [] (e ∷ es) = ⊥
 DenoteNamed expressions (n ∷ ns) [] = ⊥
 
--- a kind over nodes is a kind over expressions. A drop is none, and neither is what is refused, as an item that was taken
--- out
+-- so do lists of them
+abbrev pub DenoteLists : List AExpr → List (List (Named ℕ)) → List (List (Named Expression)) → Type 0
+DenoteLists expressions [] [] = Unit {0}
+DenoteLists expressions (nodes ∷ others) (outputs ∷ lists) = DenoteNamed expressions nodes outputs × DenoteLists expressions others lists
+DenoteLists expressions [] (outputs ∷ lists) = ⊥
+DenoteLists expressions (nodes ∷ others) [] = ⊥
+
+-- a kind over nodes is a kind over expressions. What is refused is none, as an item that was taken out
 abbrev pub DenotesKind : List AExpr → PlanKind (Named ℕ) → PlanKind (Named Expression) → Type 0
 DenotesKind expressions (ScanKind table schema) kind = kind ≡ ScanKind table schema
-DenotesKind expressions (SelectKind nodes) kind =
-    (outputs : List (Named Expression)) × (kind ≡ SelectKind outputs) × DenoteNamed expressions nodes outputs
-DenotesKind expressions (HStackKind nodes) kind =
-    (outputs : List (Named Expression)) × (kind ≡ HStackKind outputs) × DenoteNamed expressions nodes outputs
-DenotesKind expressions (GroupByKind keys aggs) kind =
-    (outputs : List (Named Expression)) × (others : List (Named Expression)) × (kind ≡ GroupByKind outputs others) × DenoteNamed expressions keys outputs × DenoteNamed expressions aggs others
-DenotesKind expressions (FilterKind flat) kind =
-    (predicate : Named Expression) × (kind ≡ FilterKind predicate) × DenoteNamed expressions (flat ∷ []) (predicate ∷ [])
-DenotesKind expressions (SimpleProjectionKind columns) kind = kind ≡ SimpleProjectionKind columns
-DenotesKind expressions (DropKind selectors strict) kind = ⊥
+DenotesKind expressions (OverKind work nodes) kind =
+    (lists : List (List (Named Expression))) × (kind ≡ OverKind work lists) × DenoteLists expressions nodes lists
 DenotesKind expressions (RefusedKind kinds) kind = ⊥
 
 -- an op over nodes is an op over expressions

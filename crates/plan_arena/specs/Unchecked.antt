@@ -1,6 +1,6 @@
 -- Plans whose predicates' types aren't checked.
 -- A filter over an input that has a schema counts as giving it, whatever the type of its predicate. Every other rule is kept.
-use Rattle.std.specs.Prelude.{◌≡◌, ℕ, List, [], ◌∷◌, ◌++◌, Option, Some}
+use Rattle.std.specs.Prelude.{◌≡◌, ℕ, List, [], ◌∷◌, ◌++◌, map, Option, Some}
 use Rattle.std.specs.BTreeMap.{BTreeMap}
 use Rattle.plan_types.specs.Schemas.{Columns}
 use Rattle.plan_types.specs.declared.schema.Schema.{Schema}
@@ -8,8 +8,8 @@ use Rattle.plan_types.specs.declared.error.ErrorKind.{ErrorKind}
 use Rattle.plan_dsl.specs.Registry.{Registry}
 use Rattle.plan_dsl.specs.Ops.{Expression}
 use Rattle.plan_dsl.specs.Trees.{Trees, node, no_more, more, fold}
-use Rattle.plan_dsl.specs.Plans.{Named, PlanKind, FilterKind, PlanOp, Plan, expressions_of}
-use Rattle.plan_dsl.specs.PlanRules.{expression_kinds, own_kinds, schema_by, where_unbroken}
+use Rattle.plan_dsl.specs.Plans.{Named, PlanKind, OverKind, PlanOp, Plan, expressions_of}
+use Rattle.plan_dsl.specs.PlanRules.{expression_kinds, names_in, work_kinds, own_kinds, schema_by, where_unbroken}
 use Rattle.plan_arena.specs.declared.aexpr.AExpr.{AExpr}
 use Rattle.plan_arena.specs.declared.arena.Node.{Node}
 use Rattle.plan_arena.specs.declared.ir.IR.{IR}
@@ -18,9 +18,9 @@ use Rattle.plan_arena.specs.Items.{HoldsPlan}
 use Rattle.plan_arena.specs.PlanSchemas.{into_by, scanned, KeepsEach}
 use Rattle.plan_arena.specs.Runs.{HasRecorded}
 
--- the kinds that a node breaks besides those of its expressions, that of a predicate's type aside
+-- the kinds that a node breaks besides those of its expressions, those of types aside
 abbrev pub unchecked_own_kinds : Registry → PlanKind (Named Expression) → List (Option Columns) → List ErrorKind
-unchecked_own_kinds registry (FilterKind predicate) (Some schema ∷ []) = []
+unchecked_own_kinds registry (OverKind work lists) (Some schema ∷ []) = work_kinds work schema (map names_in lists)
 unchecked_own_kinds registry kind inputs = own_kinds registry kind inputs
 
 -- all of them

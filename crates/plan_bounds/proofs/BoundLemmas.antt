@@ -7,6 +7,7 @@ use Rattle.std.proofs.lemmas.List.Sums.{sum_by-cons}
 use Rattle.plan_types.specs.Schemas.{Columns}
 use Rattle.plan_dsl.specs.Aliases.{core, spelled}
 use Rattle.plan_dsl.specs.Counts.{expression_casts, outputs_casts, cast_count}
+use Rattle.plan_dsl.specs.InlinedCasts.{written_out}
 use Rattle.plan_dsl.specs.Literals.{settled}
 use Rattle.plan_dsl.specs.Ops.{Expression}
 use Rattle.plan_dsl.specs.PlanRules.{input_schema, plan_rule, schema_of}
@@ -16,14 +17,13 @@ use Rattle.plan_dsl.specs.Trees.{node, no_more, more}
 use Rattle.plan_dsl.specs.Typing.{Typed, typing}
 use Rattle.plan_dsl.proofs.LiteralLemmas.{strict_settled}
 use Rattle.plan_dsl.proofs.RuleLemmas.{filter_schema}
-use Rattle.plan_coerce.specs.InlinedCasts.{written_out}
 use Rattle.plan_properties.specs.Splitting.{IsCondition, filters_over, split_predicate}
 use Rattle.plan_properties.proofs.FilterLemmas.{IsPredicate}
 use Rattle.plan_bounds.specs.Bounds.{IsBounded}
 use Rattle.plan_bounds.specs.Counts.{other_nodes, idle_casts}
 use Rattle.plan_bounds.specs.Laws.{in_all}
 use Rattle.plan_bounds.specs.LoweredPlans.{has_wide_horizontals}
-use Rattle.plan_bounds.specs.PlanCounts.{over_schema, over_inputs, settled_needs, plan_idle, plan_size}
+use Rattle.plan_bounds.specs.PlanCounts.{over_schema, over_inputs, settled_needs, nodes_in, plan_idle, plan_most, plan_size}
 use Rattle.plan_bounds.proofs.CountLemmas.{written_casts, written_others, written_idle, settled_others, settled_idle}
 use Rattle.plan_bounds.proofs.SpelledLemmas.{settled_typed, spelled_within}
 use Rattle.plan_bounds.proofs.PartLemmas.{split_casts, split_idle, split_size}
@@ -33,8 +33,8 @@ one_alone : {A : Type 0} (f : A → ℕ) (x : A) → sum_by f (x ∷ []) ≡ f x
 one_alone f x = let whole = sum_by-cons f x [] in omega (arith, whole)
 
 -- a plan has a node
-pub one_node : (plan : Plan) → 1 ≤ plan_size true plan
-one_node (node op inputs) = omega arith
+pub one_node : (registry : Registry) (plan : Plan) → 1 ≤ plan_most registry plan
+one_node registry (node op inputs) = omega arith
 
 module _ (registry : Registry) where
   -- ---- expressions over a schema
@@ -86,9 +86,6 @@ module _ (registry : Registry) where
 
   abbrev casts_in : List (OverInput (Named Expression)) → ℕ
   casts_in es = sum_by (λ (e : OverInput (Named Expression)). outputs_casts e.outputs) es
-
-  abbrev nodes_in : Bool → List (OverInput (Named Expression)) → ℕ
-  nodes_in write es = sum_by (λ (e : OverInput (Named Expression)). in_all (other_nodes write) e.outputs) es
 
   pub record AllWithin (schema : Columns) (before after : List (OverInput (Named Expression))) : Type 0 where
     pub casts : casts_in after ≤ over_inputs (settled_needs true) registry (Some schema ∷ []) before
@@ -144,11 +141,10 @@ module _ (registry : Registry) where
             let below = bounded.idle in
             omega (arith, left, right, own, below);
         size =
-            let left = one_alone (λ (x : ℕ). x) (plan_size false lowered) in
-            let right = one_alone (λ (x : ℕ). x) (plan_size true source) in
+            let left = one_alone (λ (x : ℕ). x) (plan_size lowered) in
             let own = within.nodes in
             let below = bounded.size in
-            omega (arith, left, right, own, below);
+            omega (arith, left, own, below);
       }
 
   -- a scan by itself
@@ -165,9 +161,8 @@ module _ (registry : Registry) where
         idle = omega (arith, idle);
         size =
             let left = one_alone (λ (x : ℕ). x) 1 in
-            let right = one_alone (λ (x : ℕ). x) (plan_size true source) in
-            let below = one_node source in
-            omega (arith, nodes, left, right, below);
+            let below = one_node registry source in
+            omega (arith, nodes, left, below);
       }
 
   -- ---- filters
@@ -200,11 +195,11 @@ module _ (registry : Registry) where
         let whole = sum_by-cons (λ (x : Named Expression). idle_casts false registry schema x.expression) p ps in
         omega (arith, below, here, own, alone, whole)
 
-    filters_size : (predicates : List (Named Expression)) (input : Plan) → plan_size false (filters_over predicates input) ≡ in_all (other_nodes false) predicates + length predicates + plan_size false input
+    filters_size : (predicates : List (Named Expression)) (input : Plan) → plan_size (filters_over predicates input) ≡ in_all (other_nodes false) predicates + length predicates + plan_size input
     filters_size [] input = omega arith
     filters_size (p ∷ ps) input =
         let below = filters_size ps input in
-        let inner = one_alone (λ (x : ℕ). x) (plan_size false (filters_over ps input)) in
+        let inner = one_alone (λ (x : ℕ). x) (plan_size (filters_over ps input)) in
         let own = one_alone (λ (e : OverInput (Named Expression)). in_all (other_nodes false) e.outputs) (over_input 0 (p ∷ [])) in
         let alone = one_alone (λ (x : Named Expression). other_nodes false x.expression) p in
         let whole = sum_by-cons (λ (x : Named Expression). other_nodes false x.expression) p ps in
@@ -238,8 +233,7 @@ module _ (registry : Registry) where
               let split = split_size registry schema after condition in
               let alone = one_alone (λ (x : Named Expression). other_nodes false x.expression) after in
               let right = one_alone (λ (e : OverInput (Named Expression)). in_all (other_nodes true) e.outputs) (over_input 0 (before ∷ [])) in
-              let inner = one_alone (λ (x : ℕ). x) (plan_size true source) in
               let most = within.nodes in
               let below = bounded.size in
-              omega (arith, left, split, alone, right, inner, most, below);
+              omega (arith, left, split, alone, right, most, below);
         }

@@ -16,7 +16,9 @@ use Rattle.plan_types.specs.Schemas.{Name, Columns}
 use Rattle.plan_types.proofs.CommonLemmas.{alone_itself, alone_known, literal_has}
 use Rattle.plan_types.proofs.CastLemmas.{source_known}
 use Rattle.plan_dsl.specs.Aliases.{renamed}
+use Rattle.plan_dsl.specs.Coercion.{fitted, fitted_by, coerced, coerced_all}
 use Rattle.plan_dsl.specs.Counts.{op_casts, expression_casts}
+use Rattle.plan_dsl.specs.InlinedCasts.{all_inlined, cast_of, in_place_of, inlined, is_logical, literal_cast, written_out}
 use Rattle.plan_dsl.specs.Literals.{settled, settled_type}
 use Rattle.plan_dsl.specs.Ops.{Op, LiteralOp, BinaryOp, CastOp, AliasOp, Expression}
 use Rattle.plan_dsl.specs.Registry.{Registry}
@@ -29,8 +31,6 @@ use Rattle.plan_dsl.proofs.SignatureLemmas.{AllBecome, IsTakenTo, makes, passes}
 use Rattle.plan_dsl.proofs.OperandLemmas.{after_typed}
 use Rattle.plan_dsl.proofs.SameLemmas.{typings_same}
 use Rattle.plan_dsl.proofs.TypingLemmas.{by_children, by_no_children, typed_parts}
-use Rattle.plan_coerce.specs.Coercion.{fitted, fitted_by, coerced, coerced_all}
-use Rattle.plan_coerce.specs.InlinedCasts.{all_inlined, cast_of, in_place_of, inlined, is_logical, literal_cast, written_out}
 use Rattle.plan_coerce.proofs.InliningLemmas.{all_inlined_same, gives_literal, some_where}
 use Rattle.plan_coerce.proofs.NameLemmas.{all_coerced_same, coerced_same}
 use Rattle.plan_bounds.specs.Counts.{changed_casts, operand_casts, operands_casts, ruled_casts, node_casts, implicit_casts, all_implicit_casts, needed_casts, own_nodes, other_nodes_step, other_nodes, is_idle, idle_casts, all_idle_casts}

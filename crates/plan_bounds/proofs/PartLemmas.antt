@@ -9,10 +9,10 @@ use Rattle.plan_dsl.specs.Counts.{expression_casts, outputs_casts}
 use Rattle.plan_dsl.specs.declared.operator.Operator.{Operator}
 use Rattle.plan_dsl.specs.Ops.{Op, BinaryOp, Expression}
 use Rattle.plan_dsl.specs.Plans.{Named}
+use Rattle.plan_dsl.specs.Properties.{permits_pushdown}
 use Rattle.plan_dsl.specs.Registry.{Registry}
 use Rattle.plan_dsl.specs.Trees.{Trees, node, no_more, more}
 use Rattle.plan_dsl.specs.Typing.{Typed, typing_all}
-use Rattle.plan_properties.specs.Properties.{permits_pushdown}
 use Rattle.plan_properties.specs.Splitting.{IsCondition, all_conjuncts, conjuncts, is_conjunction, own_named, split_predicate}
 use Rattle.plan_properties.proofs.ConjunctLemmas.{both_conditions}
 use Rattle.plan_bounds.specs.Counts.{other_nodes, idle_casts}

@@ -21,6 +21,7 @@ use Rattle.plan_dsl.specs.declared.operator.Operator.{Operator}
 use Rattle.plan_dsl.specs.declared.operator.Operator.TheVariants.{LogicalAnd, LogicalOr}
 use Rattle.plan_dsl.specs.Aliases.{all_pruned, chain, chained, core, is_written_out, put_together, spelled}
 use Rattle.plan_dsl.specs.Counts.{op_casts, expression_casts}
+use Rattle.plan_dsl.specs.InlinedCasts.{literal_cast, literal_given}
 use Rattle.plan_dsl.specs.Literals.{is_literal, settled}
 use Rattle.plan_dsl.specs.Names.{Label, op_label}
 use Rattle.plan_dsl.specs.Ops.{Op, LiteralOp, BinaryOp, CastOp, AliasOp, FunctionOp, Expression}
@@ -32,7 +33,6 @@ use Rattle.plan_dsl.proofs.ChainLemmas.{IsChained, all_chained, any_chained, cha
 use Rattle.plan_dsl.proofs.CoreLemmas.{alike_typed, all_pruned_same, pruned_alone, pruned_same}
 use Rattle.plan_dsl.proofs.LiteralLemmas.{becomes_literal}
 use Rattle.plan_dsl.proofs.TypingLemmas.{by_children, by_no_children, ok_same, typed_parts}
-use Rattle.plan_coerce.specs.InlinedCasts.{literal_cast, literal_given}
 use Rattle.plan_bounds.specs.Counts.{all_idle_casts, all_implicit_casts, becomes_cast, chain_nodes, changed_casts, idle_casts, is_already, needed_casts, node_casts, operand_casts, operands_casts, other_nodes, other_nodes_step, own_nodes, ruled_casts}
 use Rattle.plan_bounds.specs.Laws.{SpelledIsCounted}
 use Rattle.plan_bounds.specs.LoweredPlans.{has_wide_horizontals, have_wide_horizontals, is_wide}

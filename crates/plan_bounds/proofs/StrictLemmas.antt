@@ -19,7 +19,7 @@ use Rattle.plan_dsl.proofs.LiteralLemmas.{strict_settled}
 use Rattle.plan_dsl.proofs.StrictLemmas.{strict_parts}
 use Rattle.plan_arena.specs.Runs.{IsStrictCore, AreStrictOver, AreStrict, IsStrictPlan, AllStrictPlans}
 use Rattle.plan_bounds.specs.Counts.{changed_casts, operands_casts, ruled_casts, node_casts, implicit_casts, all_implicit_casts, needed_casts}
-use Rattle.plan_bounds.specs.PlanCounts.{over_schema, over_inputs, settled_needs, plan_needs, in_plans}
+use Rattle.plan_bounds.specs.PlanCounts.{over_schema, over_inputs, settled_needs, own_needs, own_where, plan_needs, in_plans}
 use Rattle.plan_bounds.specs.Laws.{in_all}
 
 -- operands that are taken to their own types need none
@@ -83,7 +83,7 @@ module _ (registry : Registry) where
         let below = strict_plans_need inputs strict.1 in
         omega (arith, own, below)
 
-    strict_plans_need : (plans : Trees (PlanOp (Named Expression))) → AllStrictPlans registry plans → in_plans (settled_needs false) registry plans ≡ sum (fold_all plan_op_casts plans)
+    strict_plans_need : (plans : Trees (PlanOp (Named Expression))) → AllStrictPlans registry plans → in_plans (settled_needs false) (own_where false own_needs) registry plans ≡ sum (fold_all plan_op_casts plans)
     strict_plans_need no_more strict = refl
     strict_plans_need (more plan plans) strict =
         let whole = sum_by-cons (λ (x : ℕ). x) (cast_count plan) (fold_all plan_op_casts plans) in

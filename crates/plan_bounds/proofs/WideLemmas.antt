@@ -13,11 +13,14 @@ use Rattle.plan_dsl.specs.declared.function_expr.FunctionExpr.TheVariants.{AllHo
 use Rattle.plan_dsl.specs.declared.operator.Operator.{Operator}
 use Rattle.plan_dsl.specs.declared.operator.Operator.TheVariants.{LogicalAnd, LogicalOr}
 use Rattle.plan_dsl.specs.Aliases.{all_pruned, chain, chained, is_written_out, put_together, renamed, spelled}
+use Rattle.plan_dsl.specs.Coercion.{coerced, coerced_all}
 use Rattle.plan_dsl.specs.Expressions.{plain_tree}
+use Rattle.plan_dsl.specs.InlinedCasts.{all_inlined, cast_of, in_place_of, inlined, is_logical, written_out}
 use Rattle.plan_dsl.specs.Literals.{settled, settled_type}
 use Rattle.plan_dsl.specs.Names.{Label, op_label}
 use Rattle.plan_dsl.specs.Ops.{Op, LiteralOp, BinaryOp, CastOp, AliasOp, FunctionOp, Expression}
 use Rattle.plan_dsl.specs.Plans.{Named, Plan}
+use Rattle.plan_dsl.specs.Properties.{permits_pushdown}
 use Rattle.plan_dsl.specs.Registry.{Registry}
 use Rattle.plan_dsl.specs.Strictness.{as_operand, as_operands, cast_to, changed, integer_has, number_as, number_literal}
 use Rattle.plan_dsl.specs.Trees.{Trees, node, no_more, more, fold_all, tree_count}
@@ -28,11 +31,8 @@ use Rattle.plan_dsl.proofs.SameLemmas.{typings_same}
 use Rattle.plan_dsl.proofs.SignatureLemmas.{AllBecome}
 use Rattle.plan_dsl.proofs.TypingLemmas.{by_children, by_no_children, typed_parts}
 use Rattle.plan_arena.proofs.OperandNameLemmas.{AllHaveNone, HasNone, expr_none}
-use Rattle.plan_coerce.specs.Coercion.{coerced, coerced_all}
-use Rattle.plan_coerce.specs.InlinedCasts.{all_inlined, cast_of, in_place_of, inlined, is_logical, written_out}
 use Rattle.plan_coerce.proofs.InliningLemmas.{gives_literal, some_where}
 use Rattle.plan_coerce.proofs.NameLemmas.{all_coerced_same, fitted_typed}
-use Rattle.plan_properties.specs.Properties.{permits_pushdown}
 use Rattle.plan_properties.specs.Splitting.{all_conjuncts, conjuncts, filters_over, is_conjunction, own_named, split_predicate}
 use Rattle.plan_properties.proofs.SplittingLemmas.{all_of_both}
 use Rattle.plan_bounds.specs.LoweredPlans.{is_wide, has_wide_horizontals, have_wide_horizontals, IsWidePlan}

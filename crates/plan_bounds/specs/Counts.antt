@@ -6,13 +6,13 @@ use Rattle.plan_types.specs.Types.{Ty, Truth, Untyped, same_type}
 use Rattle.plan_types.specs.Schemas.{Columns}
 use Rattle.plan_types.specs.Values.{IntValue}
 use Rattle.plan_types.specs.declared.dtype.CastOptions.TheVariants.{NonStrict}
+use Rattle.plan_dsl.specs.InlinedCasts.{literal_cast}
 use Rattle.plan_dsl.specs.Registry.{Registry}
 use Rattle.plan_dsl.specs.Trees.{Trees, node, no_more, more, fold}
 use Rattle.plan_dsl.specs.Literals.{settled_type}
 use Rattle.plan_dsl.specs.Ops.{Op, CastOp, Expression}
 use Rattle.plan_dsl.specs.Counts.{expression_casts}
 use Rattle.plan_dsl.specs.Typing.{Typed, Ruling, rule, types_of, typing_all}
-use Rattle.plan_coerce.specs.InlinedCasts.{literal_cast}
 use Rattle.plan_bounds.specs.LoweredPlans.{is_wide}
 
 -- a cast stands round an operand that is made of another type, and round a number without a type only where no literal of the

@@ -6,12 +6,12 @@ use Rattle.plan_dsl.specs.declared.expr.Expr.{Expr}
 use Rattle.plan_dsl.specs.Aliases.{core, spelled}
 use Rattle.plan_dsl.specs.Counts.{expression_casts, outputs_casts}
 use Rattle.plan_dsl.specs.Expressions.{plain_tree}
+use Rattle.plan_dsl.specs.InlinedCasts.{written_out}
 use Rattle.plan_dsl.specs.Literals.{settled}
 use Rattle.plan_dsl.specs.Ops.{Expression}
 use Rattle.plan_dsl.specs.Plans.{Named}
 use Rattle.plan_dsl.specs.Registry.{Registry}
 use Rattle.plan_dsl.specs.Typing.{Typed, typing}
-use Rattle.plan_coerce.specs.InlinedCasts.{written_out}
 use Rattle.plan_properties.specs.Splitting.{IsCondition, split_predicate}
 use Rattle.plan_bounds.specs.Counts.{needed_casts, other_nodes, idle_casts}
 use Rattle.plan_bounds.specs.LoweredPlans.{has_wide_horizontals}

@@ -18,7 +18,7 @@ ghost use Rattle.plan_properties.specs.Splitting.{split_predicate};
 ghost use Rattle.plan_bounds.specs.Bounds.{IsBounded};
 ghost use Rattle.plan_bounds.specs.Laws.{in_all};
 ghost use Rattle.plan_bounds.specs.LoweredPlans.{IsLoweredPlan, IsWidePlan, has_wide_horizontals, have_wide_horizontals, is_wide};
-ghost use Rattle.plan_bounds.specs.PlanCounts.{over_inputs, over_schema, plan_idle, plan_needs, plan_size, settled_needs};
+ghost use Rattle.plan_bounds.specs.PlanCounts.{over_inputs, over_schema, plan_idle, plan_most, plan_needs, plan_size, settled_needs};
 ghost use Rattle.plan_bounds.specs.Samples.{over_two, recorded_select};
 ghost use Rattle.plan_coerce.specs.Samples.{strict_sum};
 ghost use Rattle.plan_bounds.specs.Counts.{all_idle_casts, all_implicit_casts, becomes_cast, chain_nodes, changed_casts, idle_casts, implicit_casts, is_already, is_idle, needed_casts, node_casts, operand_casts, operands_casts, other_nodes, other_nodes_step, own_nodes, ruled_casts};
@@ -132,8 +132,8 @@ pub fn plans()
     ensures refused_below { plan_needs true [] (select (cast_to int8 a ∷ []) (select (c ∷ []) (scan schema_ab))) ≡ 0 }
     ensures number { plan_needs true [] (select (five ∷ binary Plus a five ∷ []) (scan schema_ab)) ≡ 0 }
     ensures idle { plan_idle true [] (keep (binary Eq a five) (select (cast_to int8 a ∷ cast_to int32 b ∷ cast_to int8 b ∷ []) (scan schema_ab))) ≡ 2 }
-    ensures size { plan_size true (keep (binary Eq a b) (select (cast_to int8 a ∷ sum ∷ []) (scan schema_ab))) ≡ 10 }
-    ensures scan { plan_size true (scan schema_ab) ≡ 1 }
+    ensures size { plan_most [] (keep (binary Eq a b) (select (cast_to int8 a ∷ sum ∷ []) (scan schema_ab))) ≡ 10 }
+    ensures scan { plan_most [] (scan schema_ab) ≡ 1 }
 {}
 
 /// A horizontal over one operand counts as the cast to which it is written out, and over two as a chain: as a node over one
@@ -141,11 +141,13 @@ pub fn plans()
 pub fn plans_of_other_kinds()
     ensures one_operand { plan_needs true [] (select (call AnyHorizontal (binary Eq a b ∷ []) ∷ []) (scan schema_ab)) ≡ 2 }
     ensures without_effect { plan_idle true [] (select (call AnyHorizontal (binary Eq a b ∷ []) ∷ []) (scan schema_ab)) ≡ 1 }
-    ensures chain { plan_size true (select (call AllHorizontal (binary Eq a b ∷ binary Eq b five ∷ []) ∷ []) (scan schema_ab)) ≡ 9 }
+    ensures chain { plan_most [] (select (call AllHorizontal (binary Eq a b ∷ binary Eq b five ∷ []) ∷ []) (scan schema_ab)) ≡ 9 }
     ensures as_it_stands { plan_needs false [] (select (call AnyHorizontal (binary Eq a b ∷ []) ∷ []) (scan schema_ab)) ≡ 1 }
+    ensures size_as_it_stands { plan_size (select (call AnyHorizontal (binary Eq a b ∷ []) ∷ []) (scan schema_ab)) ≡ 6 }
+    ensures size_written_out { plan_most [] (select (call AnyHorizontal (binary Eq a b ∷ []) ∷ []) (scan schema_ab)) ≡ 5 }
     ensures hstack { plan_needs true [] (stack (sum ∷ cast_to int16 a ∷ []) (scan schema_ab)) ≡ 2 }
     ensures groups { plan_needs true [] (group_by (sum ∷ []) (cast_to int8 b ∷ []) (scan schema_ab)) ≡ 2 }
-    ensures projection { plan_size true (project schema_ab (scan schema_ab)) ≡ 2 }
+    ensures projection { plan_most [] (project schema_ab (scan schema_ab)) ≡ 2 }
 {}
 
 /// Over a schema, over none, and by the number of the input.

@@ -12,6 +12,7 @@ use Rattle.plan_types.specs.declared.dtype.CastOptions.TheVariants.{NonStrict}
 use Rattle.plan_types.specs.CommonTypes.{type_alone}
 use Rattle.plan_types.proofs.CommonLemmas.{alone_itself, literal_has}
 use Rattle.plan_types.proofs.CastLemmas.{source_known}
+use Rattle.plan_dsl.specs.Coercion.{fitted, fitted_by, coerced, coerced_all}
 use Rattle.plan_dsl.specs.Registry.{Registry}
 use Rattle.plan_arena.specs.declared.aexpr.AExpr.{AExpr}
 use Rattle.plan_arena.specs.Denotation.{Denotes}
@@ -36,7 +37,6 @@ use Rattle.plan_dsl.proofs.OperandLemmas.{after_typed, operands_same, types_are}
 use Rattle.plan_dsl.proofs.SameLemmas.{node_same, typings_same, same_itself, same_then}
 use Rattle.plan_dsl.proofs.StrictLemmas.{strict_parts}
 use Rattle.std.proofs.lemmas.Bool.{and_parts, and_from}
-use Rattle.plan_coerce.specs.Coercion.{fitted, fitted_by, coerced, coerced_all}
 
 -- the one expression says the same as the other, and both are one with every cast written out
 pub record IsAlike (registry : Registry) (schema : Columns) (before after : Expression) : Type 0 where

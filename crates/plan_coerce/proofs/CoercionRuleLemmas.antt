@@ -10,6 +10,8 @@ use Rattle.plan_types.specs.Values.{Val, IntValue}
 use Rattle.plan_types.specs.CommonTypes.{type_alone}
 use Rattle.plan_types.specs.Schemas.{Name, Columns}
 use Rattle.plan_types.proofs.ListLemmas.{slice_get-append}
+use Rattle.plan_dsl.specs.Coercion.{coerced}
+use Rattle.plan_dsl.specs.InlinedCasts.{inlined, stays, until_gone}
 use Rattle.plan_dsl.specs.Registry.{Registry}
 use Rattle.plan_dsl.specs.Literals.{is_literal_of, literal_op, settled, settled_type}
 use Rattle.plan_dsl.specs.Aliases.{is_core_op, renamed}
@@ -34,12 +36,12 @@ use Rattle.plan_infer.specs.declared.type_table.TypeTable.{TypeTable}
 use Rattle.plan_infer.specs.KeptTypes.{Extends, HasRightTypes, IsKept, IsRight, KeepsEntry, typed_of, typings_at}
 use Rattle.plan_infer.specs.Typed.{HasType}
 use Rattle.plan_infer.proofs.TableLemmas.{children_kept, extends_then, kept_typing, known_typed, layer_held, over_kept, ruled_inputs}
-use Rattle.plan_coerce.specs.Coercion.{AddsNodes, AllStrictFrom, AreChanged, ChangesType, IsOver, IsOverOperands, KeepsStrict, TakesOperands, coerced}
+use Rattle.plan_coerce.specs.Coercion.{AddsNodes, AllStrictFrom, AreChanged, ChangesType, IsOver, IsOverOperands, KeepsStrict, TakesOperands}
 use Rattle.plan_coerce.specs.CoercionRule.{CanReplace, ForgetsOnceTyped, IsCoercion, StaysSettled}
-use Rattle.plan_coerce.specs.InlinedCasts.{IsTypedNode, inlined, stays, until_gone}
 use Rattle.plan_coerce.specs.KindLaws.{becomes_itself}
 use Rattle.plan_coerce.specs.Reaching.{AreMadeOnce, IsClosed, IsReached, Near}
 use Rattle.plan_coerce.specs.Rules.{ExtendsUnless, IsLike, IsReplacement, is_settled, is_strict_node, said, until_settled}
+use Rattle.plan_coerce.specs.ToldCasts.{IsTypedNode}
 use Rattle.plan_coerce.proofs.FrameLemmas.{on_frames}
 use Rattle.plan_coerce.proofs.CoercionLemmas.{not_renamed, own_literal, rewritten, plain_strict, takes_listed, under_alias}
 use Rattle.plan_coerce.proofs.OnceLemmas.{over_once}

@@ -233,7 +233,7 @@ filter_denotes plans n input by below predicate got label d under = (
   record {
     flat = filter_op (record { label = column_label (codes "a"); expression = by });
     item = plan_got plans n (filter_by input by) got;
-    denotes = record { same_recorded = refl; kind = (named predicate, refl, (label, d, tt)) };
+    denotes = record { same_recorded = refl; kind = ((named predicate ∷ []) ∷ [], refl, ((label, d, tt), tt)) };
   },
   (under, tt),
 )

@@ -17,6 +17,7 @@ use Rattle.plan_types.proofs.CommonLemmas.{alone_itself}
 use Rattle.plan_dsl.specs.declared.operator.Operator.{Operator}
 use Rattle.plan_dsl.specs.declared.operator.Operator.TheVariants.{LogicalAnd, LogicalOr}
 use Rattle.plan_dsl.specs.Aliases.{IsCore, are_core, is_core, is_core_op}
+use Rattle.plan_dsl.specs.InlinedCasts.{all_inlined, cast_of, converted, in_place_of, inlined, is_logical, literal_cast, literal_given, literal_with}
 use Rattle.plan_dsl.specs.Kernels.{Meaning, cast_column, cast_values, given, kernel, stuck, value_before}
 use Rattle.plan_dsl.specs.Literals.{is_literal}
 use Rattle.plan_dsl.specs.Meaning.{meaning, meaning_all, applied, node_meaning, ruled_meaning}
@@ -30,7 +31,6 @@ use Rattle.plan_dsl.proofs.CastMeaningLemmas.{cast_own, if_true}
 use Rattle.plan_dsl.proofs.LiteralLemmas.{literal_means, literal_typing}
 use Rattle.plan_dsl.proofs.SameLemmas.{node_same, same_itself, same_then}
 use Rattle.plan_dsl.proofs.TypingLemmas.{ok_same, typed_parts}
-use Rattle.plan_coerce.specs.InlinedCasts.{all_inlined, cast_of, converted, in_place_of, inlined, is_logical, literal_cast, literal_given, literal_with}
 
 -- ---- what a literal in place of a cast is
 

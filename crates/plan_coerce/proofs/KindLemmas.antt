@@ -10,6 +10,8 @@ use Rattle.plan_types.specs.Values.{IntValue}
 use Rattle.plan_types.specs.declared.dtype.CastOptions.{CastOptions}
 use Rattle.plan_types.proofs.CommonLemmas.{literal_has}
 use Rattle.plan_dsl.specs.Aliases.{renamed}
+use Rattle.plan_dsl.specs.Coercion.{coerced, coerced_all}
+use Rattle.plan_dsl.specs.InlinedCasts.{all_inlined, cast_of, in_place_of, inlined, is_logical, written_out}
 use Rattle.plan_dsl.specs.Literals.{settled_type}
 use Rattle.plan_dsl.specs.Ops.{Op, AliasOp, BinaryOp, CastOp, LiteralOp, Expression}
 use Rattle.plan_dsl.specs.Registry.{Registry}
@@ -21,8 +23,6 @@ use Rattle.plan_dsl.proofs.OpLemmas.{keeps_rule}
 use Rattle.plan_dsl.proofs.SameLemmas.{typings_same}
 use Rattle.plan_dsl.proofs.SignatureLemmas.{AllBecome, IsTakenTo, makes, passes}
 use Rattle.plan_dsl.proofs.TypingLemmas.{by_children, by_no_children, typed_parts}
-use Rattle.plan_coerce.specs.Coercion.{coerced, coerced_all}
-use Rattle.plan_coerce.specs.InlinedCasts.{all_inlined, cast_of, in_place_of, inlined, is_logical, written_out}
 use Rattle.plan_coerce.specs.KindLaws.{becomes_itself, becomes_one, becomes_over, becomes_then}
 use Rattle.plan_coerce.specs.Kinds.{Becomes, cast_gone, cast_put, literal_told, number_typed}
 use Rattle.plan_coerce.proofs.InliningLemmas.{some_where}

@@ -5,6 +5,8 @@ use Rattle.plan_types.specs.Types.{Ty, Truth, Untyped, same_type}
 use Rattle.plan_types.specs.Schemas.{Columns}
 use Rattle.plan_types.specs.declared.dtype.CastOptions.{CastOptions}
 use Rattle.plan_dsl.specs.Aliases.{renamed}
+use Rattle.plan_dsl.specs.Coercion.{coerced, coerced_all, fitted, fitted_by}
+use Rattle.plan_dsl.specs.InlinedCasts.{all_inlined, cast_of, in_place_of, inlined, is_logical, written_out}
 use Rattle.plan_dsl.specs.Literals.{settled_type}
 use Rattle.plan_dsl.specs.Names.{label_of, op_label}
 use Rattle.plan_dsl.specs.Ops.{Op, LiteralOp, BinaryOp, CastOp, AliasOp, Expression}
@@ -19,8 +21,6 @@ use Rattle.plan_dsl.proofs.SameLemmas.{node_same, same_then, typings_same}
 use Rattle.plan_dsl.proofs.SignatureLemmas.{AllBecome}
 use Rattle.plan_dsl.proofs.TypingLemmas.{by_children, by_no_children, typed_parts}
 use Rattle.plan_arena.specs.Runs.{AllNameOperands, NamesOperands, NamesOver}
-use Rattle.plan_coerce.specs.Coercion.{coerced, coerced_all, fitted, fitted_by}
-use Rattle.plan_coerce.specs.InlinedCasts.{all_inlined, cast_of, in_place_of, inlined, is_logical, written_out}
 use Rattle.plan_coerce.proofs.InliningLemmas.{gives_literal, inlined_same, some_where}
 
 -- ---- casts that are written out

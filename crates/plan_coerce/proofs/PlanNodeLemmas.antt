@@ -22,7 +22,7 @@ use Rattle.plan_arena.specs.Layers.{layer, shape_of}
 use Rattle.plan_arena.specs.Items.{DenotesItem, DenotesKind, HasInputs, HoldsExpression, HoldsPlan, expression_layer, named_node, plan_layer}
 use Rattle.plan_arena.specs.RecordedSchemas.{schema_recorded}
 use Rattle.plan_arena.proofs.DenotationLemmas.{denotes_one, some_same}
-use Rattle.plan_arena.proofs.ItemLemmas.{expression_laws, item_denotes, item_inputs, layer_inputs, layer_op, plan_got, plan_within}
+use Rattle.plan_arena.proofs.ItemLemmas.{DenotesFilter, expression_laws, filter_denoted, item_denotes, item_inputs, layer_inputs, layer_op, plan_got, plan_within}
 use Rattle.plan_infer.specs.declared.type_table.TypeTable.{TypeTable}
 use Rattle.plan_infer.specs.KeptTypes.{IsRight}
 use Rattle.plan_coerce.specs.Rules.{HasAcceptedInputs, HasUncheckedInputs, RefusesPredicate, StandsOver, has_truth, is_ok_typed, truth_of}
@@ -49,14 +49,14 @@ module _ (registry : Registry) (expressions : List AExpr) (plans : List IR) (n :
   plan_tree h = record { tree = node h.op h.inputs; denotes = h.is.denotes }
 
   module _ (input : Node) (predicate : ExprIR) (got : slice_get plans n ≡ Some (Filter input predicate)) where
-    filter_kind : (op : PlanOp (Named Expression)) (ts : Trees (PlanOp (Named Expression))) (d : Denotes (HoldsPlan expressions plans) n (node op ts)) → DenotesKind expressions (FilterKind (named_node predicate)) op.kind × (d.0 ≡ input.0 ∷ [])
+    filter_kind : (op : PlanOp (Named Expression)) (ts : Trees (PlanOp (Named Expression))) (d : Denotes (HoldsPlan expressions plans) n (node op ts)) → DenotesFilter expressions (named_node predicate) op.kind × (d.0 ≡ input.0 ∷ [])
     filter_kind op ts d =
         let there = some_same (slice_get (map plan_layer plans) n) (layer d.1.flat d.0) (layer (filter_op (named_node predicate)) (input.0 ∷ [])) d.1.item (plan_got plans n (Filter input predicate) got) in
         let flat = layer_op d.1.flat (filter_op (named_node predicate)) d.0 (input.0 ∷ []) there in
-        (subst (λ (f : PlanOp (Named _)). DenotesKind expressions f.kind op.kind) flat d.1.denotes.kind, layer_inputs d.1.flat (filter_op (named_node predicate)) d.0 (input.0 ∷ []) there)
+        (filter_denoted expressions (named_node predicate) op.kind (subst (λ (f : PlanOp (Named _)). DenotesKind expressions f.kind op.kind) flat d.1.denotes.kind), layer_inputs d.1.flat (filter_op (named_node predicate)) d.0 (input.0 ∷ []) there)
 
     -- its predicate has one tree
-    one_predicate : (p q : PlanKind (Named Expression)) (x : DenotesKind expressions (FilterKind (named_node predicate)) p) (y : DenotesKind expressions (FilterKind (named_node predicate)) q) → x.0.expression ≡ y.0.expression
+    one_predicate : (p q : PlanKind (Named Expression)) (x : DenotesFilter expressions (named_node predicate) p) (y : DenotesFilter expressions (named_node predicate) q) → x.0.expression ≡ y.0.expression
     one_predicate p q x y = denotes_one (shape_of (map expression_layer expressions)) (HoldsExpression expressions) (expression_laws expressions) predicate.node.0 x.0.expression y.0.expression x.2.1 y.2.1
 
     pub filter_node : HasUncheckedInputs registry expressions plans n → IsFilter registry expressions plans n input predicate

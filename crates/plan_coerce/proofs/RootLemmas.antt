@@ -3,6 +3,8 @@ use Rattle.std.proofs.Common.{◌≡◌, ℕ, true, zero, suc, ◌≤◌, List, 
 use Rattle.std.specs.List.{AllByRecursion}
 use Rattle.std.proofs.lemmas.Bool.{and_from, and_parts}
 use Rattle.plan_types.specs.Schemas.{Columns}
+use Rattle.plan_dsl.specs.Coercion.{coerced}
+use Rattle.plan_dsl.specs.InlinedCasts.{inlined, stays, written_out}
 use Rattle.plan_dsl.specs.Registry.{Registry}
 use Rattle.plan_dsl.specs.Trees.{Trees, node, no_more, more}
 use Rattle.plan_dsl.specs.Ops.{Op, Expression}
@@ -17,8 +19,7 @@ use Rattle.plan_arena.proofs.DenotationLemmas.{denotes_one, inputs_denote}
 use Rattle.plan_arena.proofs.ItemLemmas.{any_node, expression_laws, from_laws}
 use Rattle.plan_arena.proofs.NumberLemmas.{all_weaker}
 use Rattle.plan_infer.specs.Typed.{DenotesKnown}
-use Rattle.plan_coerce.specs.Coercion.{KeepsBelow, coerced}
-use Rattle.plan_coerce.specs.InlinedCasts.{inlined, stays, written_out}
+use Rattle.plan_coerce.specs.Coercion.{KeepsBelow}
 use Rattle.plan_coerce.specs.Optimizer.{AreSettled, AreTrees, AreTypedRoots, AreWrittenOut, DenotesSettled, IsSettled, IsTypedRoot, IsWrittenOut, StaysApart, StaysLike}
 use Rattle.plan_coerce.specs.Reaching.{IsReached, ReachedBy}
 use Rattle.plan_coerce.specs.CoercionRule.{IsCoercion}

@@ -12,6 +12,8 @@ use Rattle.plan_types.specs.declared.error.ErrorKind.{ErrorKind}
 use Rattle.plan_types.specs.declared.error.ErrorKind.TheVariants.{InvalidOperation}
 use Rattle.plan_types.proofs.CastLemmas.{cast_own}
 use Rattle.plan_types.proofs.CommonLemmas.{alone_itself, literal_has}
+use Rattle.plan_dsl.specs.Coercion.{coerced}
+use Rattle.plan_dsl.specs.InlinedCasts.{stays}
 use Rattle.plan_dsl.specs.Registry.{Registry}
 use Rattle.plan_dsl.specs.Literals.{is_literal, settled, settled_type}
 use Rattle.plan_dsl.specs.Aliases.{renamed}
@@ -28,8 +30,6 @@ use Rattle.plan_dsl.proofs.LiteralLemmas.{bare, becomes_literal, child_is, liter
 use Rattle.plan_dsl.proofs.OpLemmas.{keeps_rule}
 use Rattle.plan_dsl.proofs.SignatureLemmas.{AllBecome, takes_known}
 use Rattle.plan_dsl.proofs.StrictLemmas.{same_types_exact}
-use Rattle.plan_coerce.specs.Coercion.{coerced}
-use Rattle.plan_coerce.specs.InlinedCasts.{stays}
 use Rattle.plan_coerce.specs.Rules.{AllKnown, SettlesNoNumber, is_settled, is_strict_node, said}
 
 -- a number can become of the type that it has alone, which has it

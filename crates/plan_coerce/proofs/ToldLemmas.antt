@@ -18,6 +18,8 @@ use Rattle.plan_types.proofs.CommonLemmas.{alone_itself, literal_has}
 use Rattle.plan_dsl.specs.declared.literal.LiteralValue.{LiteralValue}
 use Rattle.plan_dsl.specs.declared.operator.Operator.{Operator}
 use Rattle.plan_dsl.specs.Aliases.{renamed}
+use Rattle.plan_dsl.specs.Coercion.{coerced, coerced_all, fitted}
+use Rattle.plan_dsl.specs.InlinedCasts.{all_inlined, cast_of, in_place_of, inlined, is_cast, is_cast_op, is_logical, is_operator, is_told, is_told_top, literal_cast, stays, until_gone, written_out}
 use Rattle.plan_dsl.specs.Literals.{is_literal, literal_op, literal_type, literal_value, settled, settled_op, settled_type}
 use Rattle.plan_dsl.specs.Ops.{Op, LiteralOp, AliasOp, BinaryOp, CastOp, Expression}
 use Rattle.plan_dsl.specs.Registry.{Registry}
@@ -42,15 +44,14 @@ use Rattle.plan_infer.specs.declared.type_table.TypeTable.{TypeTable}
 use Rattle.plan_infer.specs.KeptTypes.{IsRight, KeepsEntry, typed_of}
 use Rattle.plan_infer.proofs.TableLemmas.{kept_typing}
 use Rattle.plan_coerce.specs.CoercedLaws.{inlined_renamed}
-use Rattle.plan_coerce.specs.Coercion.{ChangesType, coerced, coerced_all, fitted}
+use Rattle.plan_coerce.specs.Coercion.{ChangesType}
 use Rattle.plan_coerce.specs.Optimizer.{AreSettled, IsSettled}
 use Rattle.plan_coerce.specs.Reaching.{Among, AreOnce, HasNodes, HaveNodes, IsClosed, Near, StaysOnce}
 use Rattle.plan_coerce.specs.KindLaws.{becomes_itself, becomes_one, becomes_over, becomes_then}
 use Rattle.plan_coerce.specs.Kinds.{Becomes, cast_gone}
 use Rattle.plan_coerce.specs.Rules.{IsLike, IsReplacement, is_strict_node, said, until_settled}
 use Rattle.plan_coerce.specs.CoercionRule.{IsCoercion}
-use Rattle.plan_coerce.specs.InlinedCasts.{IsTypedNode, all_inlined, cast_of, in_place_of, inlined, is_cast, is_cast_op, is_logical, is_operator, is_told, is_told_top, literal_cast, stays, until_gone, written_out}
-use Rattle.plan_coerce.specs.ToldCasts.{LeadsTo, LeadsToLogical}
+use Rattle.plan_coerce.specs.ToldCasts.{IsTypedNode, LeadsTo, LeadsToLogical}
 use Rattle.plan_coerce.proofs.CoercedLemmas.{bare_by}
 use Rattle.plan_coerce.proofs.FrameLemmas.{on_frames}
 use Rattle.plan_coerce.proofs.InliningLemmas.{gives_literal, literal_strict, logical_truth}

@@ -8,6 +8,7 @@ use Rattle.plan_types.specs.declared.dtype.CastOptions.{CastOptions}
 use Rattle.plan_types.specs.declared.error.ErrorKind.TheVariants.{InvalidOperation}
 use Rattle.plan_dsl.specs.declared.literal.LiteralValue.{LiteralValue}
 use Rattle.plan_dsl.specs.declared.operator.Operator.{Operator}
+use Rattle.plan_dsl.specs.InlinedCasts.{is_cast_op, is_logical}
 use Rattle.plan_dsl.specs.Literals.{is_literal, literal_op, literal_type, literal_value, settled}
 use Rattle.plan_dsl.specs.Names.{Label, column_label, label_of, literal_label, op_label}
 use Rattle.plan_dsl.specs.OperatorTypes.{Taken}
@@ -28,7 +29,6 @@ use Rattle.plan_infer.specs.declared.type_table.TypeTable.{TypeTable}
 use Rattle.plan_infer.specs.KeptTypes.{AllKept, AreOperands, Extends, GivesName, IsKept, IsRight, IsTypedNode, KeepsEntry, typed_of}
 use Rattle.plan_infer.proofs.TableLemmas.{extends_itself, held_inputs, held_op, keeps_one, kept_typing, known_inputs, right_start}
 use Rattle.plan_coerce.specs.CoercionRule.{ForgetsAt}
-use Rattle.plan_coerce.specs.InlinedCasts.{is_cast_op, is_logical}
 use Rattle.plan_coerce.specs.Reaching.{IsReached}
 use Rattle.plan_coerce.specs.Rules.{ExtendsUnless, IsReplacement, IsSameOnFrames, KeepsAsTheyAre, KeepsNone, is_strict_node, said}
 use Rattle.plan_coerce.specs.ToldCasts.{LeadsTo, LeadsToLogical}

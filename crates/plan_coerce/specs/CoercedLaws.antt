@@ -9,17 +9,17 @@ use Rattle.plan_types.specs.declared.dtype.CastOptions.{CastOptions}
 use Rattle.plan_types.specs.declared.dtype.CastOptions.TheVariants.{NonStrict}
 use Rattle.plan_types.specs.declared.error.ErrorKind.{ErrorKind}
 use Rattle.plan_dsl.specs.Aliases.{renamed}
+use Rattle.plan_dsl.specs.Coercion.{coerced, coerced_all, fitted, fitted_by}
+use Rattle.plan_dsl.specs.InlinedCasts.{all_inlined, cast_of, converted, in_place_of, inlined, is_logical, is_operator, literal_given, literal_with, stays, until_gone, written_out}
 use Rattle.plan_dsl.specs.Literals.{is_literal}
 use Rattle.plan_dsl.specs.Registry.{Registry}
 use Rattle.plan_dsl.specs.Ops.{Op, AliasOp, BinaryOp, CastOp, LiteralOp, Expression}
 use Rattle.plan_dsl.specs.Strictness.{as_operand, as_operands, changed, is_strict_over, number_as}
 use Rattle.plan_dsl.specs.Trees.{Trees, node, no_more, more, AllRelated}
 use Rattle.plan_dsl.specs.Typing.{Ruling, Typed, rule, types_of, typing_all}
-use Rattle.plan_coerce.specs.Coercion.{coerced, coerced_all, fitted, fitted_by}
 use Rattle.plan_coerce.specs.CoercionRule.{IsCoercion}
 use Rattle.plan_coerce.specs.KindLaws.{becomes_over, becomes_then}
 use Rattle.plan_coerce.specs.Kinds.{Becomes}
-use Rattle.plan_coerce.specs.InlinedCasts.{all_inlined, cast_of, converted, in_place_of, inlined, is_logical, is_operator, literal_given, literal_with, stays, until_gone, written_out}
 use Rattle.plan_coerce.specs.Rules.{HasSameWritten, IsCongruent, IsLike, IsSteady, IsTransitive, is_settled, is_strict_node, said, until_settled}
 use Rattle.plan_coerce.specs.RuleLaws.{like_typings}
 

@@ -2,6 +2,7 @@
 use Rattle.std.specs.Prelude.{◌≡◌, ◌≢◌, ◌⊎◌, ℕ, Bool, true, List, [], ◌∷◌, set}
 use Rattle.plan_types.specs.Schemas.{Columns}
 use Rattle.plan_dsl.specs.declared.operator.Operator.{Operator}
+use Rattle.plan_dsl.specs.InlinedCasts.{is_cast_op, is_logical}
 use Rattle.plan_dsl.specs.Registry.{Registry}
 use Rattle.plan_dsl.specs.Ops.{Op, BinaryOp, Expression}
 use Rattle.plan_arena.specs.declared.aexpr.AExpr.{AExpr}
@@ -10,7 +11,6 @@ use Rattle.plan_arena.specs.Items.{HoldsExpression}
 use Rattle.plan_infer.specs.declared.type_table.Inferred.{Inferred}
 use Rattle.plan_infer.specs.declared.type_table.TypeTable.{TypeTable}
 use Rattle.plan_infer.specs.KeptTypes.{Extends, IsRight, KeepsEntry}
-use Rattle.plan_coerce.specs.InlinedCasts.{is_cast_op, is_logical}
 use Rattle.plan_coerce.specs.Kinds.{Becomes}
 use Rattle.plan_coerce.specs.Reaching.{IsClosed, IsReached, StaysOnce}
 use Rattle.plan_coerce.specs.Rules.{ExtendsUnless, HasSameWritten, IsReplacement, KeepsNumber, until_settled}

@@ -5,12 +5,12 @@ use Rattle.plan_types.specs.Types.{Ty, Truth, Untyped, same_type}
 use Rattle.plan_types.specs.Values.{Val}
 use Rattle.plan_types.specs.declared.dtype.CastOptions.{CastOptions}
 use Rattle.plan_dsl.specs.declared.operator.Operator.{Operator}
+use Rattle.plan_dsl.specs.InlinedCasts.{is_logical, literal_cast}
 use Rattle.plan_dsl.specs.Ops.{Op, BinaryOp, CastOp, LiteralOp, Expression}
 use Rattle.plan_dsl.specs.Registry.{Registry}
 use Rattle.plan_dsl.specs.Strictness.{cast_to, integer_has, number_literal}
 use Rattle.plan_dsl.specs.Trees.{Trees, node, no_more, more}
 use Rattle.plan_dsl.specs.Typing.{Typed, typing}
-use Rattle.plan_coerce.specs.InlinedCasts.{is_logical, literal_cast}
 
 -- A cast to another type is put round an expression; a number without a type gets one that has it; a cast of a literal
 -- becomes a literal; a cast of LogicalAnd or LogicalOr to truth values is gone.

@@ -2,7 +2,6 @@
 pub mod CoercedLaws
 pub mod Coercion
 pub mod CoercionRule
-pub mod InlinedCasts
 pub mod KindLaws
 pub mod Kinds
 pub mod Optimizer

@@ -5,6 +5,7 @@ use Rattle.plan_types.specs.Errors.{IsRefusal, no_memory}
 use Rattle.plan_types.specs.Types.{Untyped, is_known}
 use Rattle.plan_types.specs.Schemas.{Columns}
 use Rattle.plan_types.specs.declared.error.PlanError.{PlanError}
+use Rattle.plan_dsl.specs.InlinedCasts.{written_out}
 use Rattle.plan_dsl.specs.Literals.{settled as with_own_type}
 use Rattle.plan_dsl.specs.Registry.{Registry}
 use Rattle.plan_dsl.specs.Ops.{Op, Expression}
@@ -20,7 +21,6 @@ use Rattle.plan_infer.specs.declared.type_table.TypeTable.{TypeTable}
 use Rattle.plan_infer.specs.KeptTypes.{Extends, IsRight}
 use Rattle.plan_coerce.specs.declared.stack_opt.ConversionOptimizer.{ConversionOptimizer}
 use Rattle.plan_coerce.specs.Coercion.{KeepsBelow}
-use Rattle.plan_coerce.specs.InlinedCasts.{written_out}
 use Rattle.plan_coerce.specs.Reaching.{Among, AreOnce, HaveNodes, IsReached, Near}
 use Rattle.plan_coerce.specs.Rules.{IsLike, IsPlanReplacement, IsSettledPlan, NeverForgets, SettlesNoNumber, StandsOver}
 

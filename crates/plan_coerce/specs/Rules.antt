@@ -10,12 +10,14 @@ use Rattle.plan_types.specs.Schemas.{Columns}
 use Rattle.plan_types.specs.Values.{Val}
 use Rattle.plan_types.specs.declared.error.ErrorKind.{ErrorKind}
 use Rattle.plan_types.specs.declared.error.ErrorKind.TheVariants.{InvalidOperation}
+use Rattle.plan_dsl.specs.Coercion.{coerced}
+use Rattle.plan_dsl.specs.InlinedCasts.{stays, until_gone, written_out}
 use Rattle.plan_dsl.specs.Registry.{Registry}
 use Rattle.plan_dsl.specs.Literals.{settled}
 use Rattle.plan_dsl.specs.Meaning.{meaning}
 use Rattle.plan_dsl.specs.Names.{Label, label_of, op_label}
 use Rattle.plan_dsl.specs.Ops.{Op, LiteralOp, Expression}
-use Rattle.plan_dsl.specs.Plans.{Named, PlanKind, FilterKind, PlanOp}
+use Rattle.plan_dsl.specs.Plans.{Named, FilterWork, PlanKind, OverKind, FilterKind, PlanOp}
 use Rattle.plan_dsl.specs.Strictness.{is_strict_over}
 use Rattle.plan_dsl.specs.Trees.{Trees, node, no_more, more, fold_all, AllRelated}
 use Rattle.plan_dsl.specs.Typing.{Typed, typing, typing_all}
@@ -27,8 +29,6 @@ use Rattle.plan_arena.specs.Runs.{AllAccepted}
 use Rattle.plan_infer.specs.declared.type_table.Inferred.{Inferred}
 use Rattle.plan_infer.specs.declared.type_table.TypeTable.{TypeTable}
 use Rattle.plan_infer.specs.KeptTypes.{Extends, IsKept, KeepsEntry, typed_of}
-use Rattle.plan_coerce.specs.Coercion.{coerced}
-use Rattle.plan_coerce.specs.InlinedCasts.{stays, until_gone, written_out}
 use Rattle.plan_coerce.specs.Reaching.{IsReached}
 use Rattle.plan_arena.specs.Unchecked.{GoesInto, HasUncheckedSchema}
 
@@ -179,7 +179,7 @@ truth_of (Ok typed) = if is_truth typed.type then Ok typed else Err InvalidOpera
 
 -- what holds of the typing of a filter's predicate, or else, of any other node
 abbrev pub RefusesPredicate : (Result Typed ErrorKind → Type 0) → Type 0 → Registry → Columns → PlanKind (Named Expression) → Type 0
-RefusesPredicate refused other registry schema (FilterKind predicate) = refused (truth_of (typing registry schema predicate.expression))
+RefusesPredicate refused other registry schema (OverKind FilterWork ((predicate ∷ []) ∷ [])) = refused (truth_of (typing registry schema predicate.expression))
 RefusesPredicate refused other registry schema kind = other
 
 -- What is put in place of a plan's node: the arena with it denotes a plan there, over such inputs, which are accepted where
@@ -196,5 +196,5 @@ is_ok_typed (Ok typed) = true
 
 -- whether the predicate of a filter has the type of truth values; nothing is asked of other nodes
 abbrev pub has_truth : Registry → Columns → PlanKind (Named Expression) → Bool
-has_truth registry schema (FilterKind predicate) = is_ok_typed (truth_of (typing registry schema predicate.expression))
+has_truth registry schema (OverKind FilterWork ((predicate ∷ []) ∷ [])) = is_ok_typed (truth_of (typing registry schema predicate.expression))
 has_truth registry schema kind = true

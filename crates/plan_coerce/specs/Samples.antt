@@ -9,6 +9,7 @@ use Rattle.plan_types.specs.Values.{Val, NullValue, TruthValue}
 use Rattle.plan_types.specs.declared.dtype.CastOptions.{CastOptions}
 use Rattle.plan_types.specs.declared.dtype.CastOptions.TheVariants.{NonStrict}
 use Rattle.plan_dsl.specs.declared.operator.Operator.TheVariants.{Eq, Plus}
+use Rattle.plan_dsl.specs.InlinedCasts.{literal_cast}
 use Rattle.plan_dsl.specs.Ops.{LiteralOp, Expression}
 use Rattle.plan_dsl.specs.Trees.{node, no_more}
 use Rattle.plan_arena.specs.declared.aexpr.AExpr.{AExpr}
@@ -17,7 +18,6 @@ use Rattle.plan_arena.specs.declared.ir.IR.{IR}
 use Rattle.plan_arena.specs.declared.ir.IR.TheVariants.{DataFrameScan, Filter}
 use Rattle.plan_arena.specs.declared.expr_ir.OutputName.TheVariants.{ColumnLhs}
 use Rattle.plan_infer.specs.Samples.{int32, two_columns, a, b, binary, cast_to, at, pair, columns_and}
-use Rattle.plan_coerce.specs.InlinedCasts.{literal_cast}
 use Rattle.plan_coerce.specs.CoercionRule.{IsCoercion}
 use Rattle.plan_coerce.specs.Rules.{is_settled, until_settled}
 use Rattle.plan_coerce.specs.Turns.{IsFound, IsPlaced, IsStopped, IsTurn}

@@ -2,6 +2,7 @@
 use Rattle.std.specs.Prelude.{◌≡◌, ◌⊎◌, ℕ, true, false, List, [], ◌∷◌, Ok}
 use Rattle.plan_types.specs.Schemas.{Columns}
 use Rattle.plan_dsl.specs.declared.operator.Operator.{Operator}
+use Rattle.plan_dsl.specs.InlinedCasts.{is_logical, is_told, written_out}
 use Rattle.plan_dsl.specs.Literals.{literal_op}
 use Rattle.plan_dsl.specs.Registry.{Registry}
 use Rattle.plan_dsl.specs.Ops.{Op, BinaryOp, Expression}
@@ -10,7 +11,6 @@ use Rattle.plan_dsl.specs.Typing.{Typed, typing}
 use Rattle.plan_arena.specs.declared.aexpr.AExpr.{AExpr}
 use Rattle.plan_arena.specs.Denotation.{Denotes}
 use Rattle.plan_arena.specs.Items.{HoldsExpression}
-use Rattle.plan_coerce.specs.InlinedCasts.{is_logical, is_told, written_out}
 use Rattle.plan_coerce.specs.Kinds.{Becomes}
 use Rattle.plan_coerce.specs.declared.cast_inlining.Told.{Told}
 use Rattle.plan_coerce.specs.declared.cast_inlining.Told.TheVariants.{Literal, Logical, Neither}
@@ -39,3 +39,12 @@ abbrev pub IsToldBy : Registry → Columns → List AExpr → ℕ → Expression
 IsToldBy registry schema items n tree (Literal value) = written_out registry schema tree ≡ node (literal_op value) no_more
 IsToldBy registry schema items n tree (Logical m) = LeadsToLogical registry schema items n tree m.0
 IsToldBy registry schema items n tree Neither = is_told (written_out registry schema tree) ≡ false
+
+-- the node denotes an expression that has a typing over some schema
+pub record IsTypedNode (items : List AExpr) (n : ℕ) : Type 0 where
+  pub registry : Registry
+  pub schema : Columns
+  pub tree : Expression
+  pub denotes : Denotes (HoldsExpression items) n tree
+  pub typed : Typed
+  pub is : typing registry schema tree ≡ Ok typed

@@ -5,6 +5,8 @@ ghost use Rattle.plan_types.specs.Errors.{no_memory};
 ghost use Rattle.plan_types.specs.Types.{is_known, ty};
 ghost use Rattle.plan_types.specs.Schemas.{Columns};
 ghost use Rattle.plan_types.specs.ValueViews.{val_of};
+ghost use Rattle.plan_dsl.specs.Coercion.{coerced};
+ghost use Rattle.plan_dsl.specs.InlinedCasts.{is_cast_op, is_logical, is_told_top, literal_cast, literal_with, stays};
 ghost use Rattle.plan_dsl.specs.Literals.{literal_op, literal_type, literal_value};
 ghost use Rattle.plan_dsl.specs.Ops.{CastOp, Expression};
 ghost use Rattle.plan_dsl.specs.Registry.{Registry};
@@ -15,9 +17,7 @@ ghost use Rattle.plan_arena.specs.Denotation.{Denotes, DenotesTree};
 ghost use Rattle.plan_arena.specs.Items.{HoldsExpression, expression_layer};
 ghost use Rattle.plan_arena.specs.Layers.{op_of};
 ghost use Rattle.plan_infer.specs.KeptTypes.{HasRightTypes, IsKept, IsRight};
-ghost use Rattle.plan_coerce.specs.Coercion.{coerced};
 ghost use Rattle.plan_coerce.specs.CoercionRule.{CanReplace, StaysSettled};
-ghost use Rattle.plan_coerce.specs.InlinedCasts.{is_cast_op, is_logical, is_told_top, literal_cast, literal_with, stays};
 ghost use Rattle.plan_coerce.specs.Rules.{KeepsAsTheyAre, KeepsNone, is_strict_node, said};
 ghost use Rattle.plan_coerce.specs.ToldCasts.{IsToldBy};
 

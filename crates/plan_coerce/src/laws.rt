@@ -1,10 +1,10 @@
 //! What coercion makes of expressions.
 ghost use Rattle.std.specs.Prelude.{◌≡◌, Ok};
 ghost use Rattle.plan_types.specs.Schemas.{Columns};
+ghost use Rattle.plan_dsl.specs.InlinedCasts.{written_out};
 ghost use Rattle.plan_dsl.specs.Ops.{Expression};
 ghost use Rattle.plan_dsl.specs.Registry.{Registry};
 ghost use Rattle.plan_dsl.specs.Typing.{Typed, typing};
-ghost use Rattle.plan_coerce.specs.InlinedCasts.{written_out};
 ghost use Rattle.plan_coerce.specs.Kinds.{Becomes};
 
 /// A typed expression becomes what it is, written out, by replacements of four kinds: a cast to another type is put round an

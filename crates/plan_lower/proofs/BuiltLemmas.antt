@@ -1,55 +1,52 @@
--- What is built from scans, filters, selects and hstacks, and why one of the last three isn't.
+-- What is built from scans and filters, and of any node over what was built from its input; and why a node isn't lowered.
 use Rattle.std.proofs.Common.{◌≡◌, ◌⊎◌, inl, inr, ℕ, List, [], ◌∷◌, ◌++◌, map, true, false, is_some, IsTrue, Option, Some, None, Result, Ok, Err, refl, sym, ap, ◌∙◌, subst, ⊎_elim}
 use Rattle.std.specs.List.{AllByRecursion, Contains}
-use Rattle.std.proofs.lemmas.List.{length-map, map-append}
 use Rattle.std.proofs.lemmas.List.Elements.{Contains-push}
 use Rattle.plan_types.specs.Types.{Truth}
-use Rattle.plan_types.specs.Schemas.{Columns, type_at, HasDistinctNames, names_of, all_known}
+use Rattle.plan_types.specs.Schemas.{Columns, HasDistinctNames, all_known}
 use Rattle.plan_types.specs.Outcomes.{Outcome, Meets}
 use Rattle.plan_types.specs.Frames.{Frame, IsFrameOf}
 use Rattle.plan_types.specs.Errors.{no_memory, at_top, IsMemoryOr, IsRefusal, no_room as short, broken as refused_by}
 use Rattle.plan_types.specs.declared.error.ErrorKind.{ErrorKind}
-use Rattle.plan_types.specs.declared.error.ErrorKind.TheVariants.{Duplicate, InvalidOperation, ComputeError, NoMemory}
+use Rattle.plan_types.specs.declared.error.ErrorKind.TheVariants.{InvalidOperation, NoMemory}
 use Rattle.plan_types.specs.declared.error.PlanError.{PlanError}
-use Rattle.plan_types.proofs.ListLemmas.{map-map}
+use Rattle.plan_dsl.specs.Coercion.{coerced}
 use Rattle.plan_dsl.specs.Registry.{Registry}
 use Rattle.plan_dsl.specs.Trees.{node, no_more, more}
 use Rattle.plan_dsl.specs.Ops.{Expression}
 use Rattle.plan_dsl.specs.Names.{Label, label_of, name_of}
-use Rattle.plan_dsl.specs.Plans.{PlanOp, Plan, SourcePlan, Named, named, RefusedKind, scan_op, select_op, hstack_op, filter_op, over_input, expressions_of, own_scans}
+use Rattle.plan_dsl.specs.Plans.{FilterWork, PlanOp, Plan, SourcePlan, Named, named, RefusedKind, scan_op, filter_op, expressions_of, own_scans}
 use Rattle.plan_dsl.specs.Sources.{Source}
 use Rattle.plan_dsl.specs.Refusals.{then_ok, with_kinds}
 use Rattle.plan_dsl.specs.Resolving.{expanded_kind, resolved}
 use Rattle.plan_dsl.specs.Aliases.{IsCore, core, spelled}
 use Rattle.plan_dsl.specs.Literals.{settled}
 use Rattle.plan_dsl.specs.Typing.{Typed, typing}
-use Rattle.plan_dsl.specs.PlanRules.{with_columns, plan_rule, schema_of, broken_kinds, Breaks}
+use Rattle.plan_dsl.specs.PlanRules.{plan_rule, schema_of, broken_kinds, Breaks}
 use Rattle.plan_dsl.specs.PlanKernels.{plan_kernel}
 use Rattle.plan_dsl.specs.PlanMeaning.{by_meaning, FitsPlan, MeetsWhere}
 use Rattle.plan_dsl.proofs.ResolvingLemmas.{resolved_as}
 use Rattle.plan_dsl.proofs.FrameLemmas.{fits_input, fits_over}
-use Rattle.plan_dsl.proofs.KernelLemmas.{AgreeOn, selected_agrees, hstacked_agrees, filtered_agrees}
+use Rattle.plan_dsl.proofs.KernelLemmas.{AgreeOn, lists_agree, over_agrees}
 use Rattle.plan_dsl.proofs.LiteralLemmas.{strict_settled, settled_label}
 use Rattle.plan_dsl.proofs.AliasLemmas.{spelled_label}
 use Rattle.plan_dsl.proofs.CoreLemmas.{settled_none}
-use Rattle.plan_coerce.specs.Coercion.{coerced}
 use Rattle.plan_coerce.proofs.CoercedLemmas.{coerced_core}
 use Rattle.plan_coerce.proofs.InliningLemmas.{inlined_core}
 use Rattle.plan_dsl.proofs.RunLemmas.{strict_is_meaning}
-use Rattle.plan_dsl.proofs.RuleLemmas.{scan_schema, scan_unknown_kind, select_schema, select_refused_kind, select_repeated_name, hstack_schema, hstack_refused_kind, hstack_repeated_name, filter_schema, filter_refused_kind, filter_other_type, broken_is_ill_formed}
+use Rattle.plan_dsl.proofs.RuleLemmas.{scan_schema, scan_unknown_kind, first_refused, filter_schema, filter_other_type, broken_is_ill_formed}
 use Rattle.plan_arena.specs.Runs.{AreStrict, HasOwnName, HasRecorded, HaveOwnNames, IsStrictCore, by_running, plan_run}
 use Rattle.plan_arena.proofs.RunLemmas.{runs_soundly, sound_top}
-use Rattle.plan_bounds.proofs.BoundLemmas.{AreWithin, AllWithin, none_within, more_within, nothing_within, all_within, over_bounded, over_nothing, scan_bounded, split_bounded}
+use Rattle.plan_bounds.proofs.BoundLemmas.{AreWithin, AllWithin, none_within, more_within, over_bounded, scan_bounded, split_bounded}
 use Rattle.plan_bounds.specs.LoweredPlans.{AreWide, has_wide_horizontals}
 use Rattle.plan_bounds.proofs.WideLemmas.{filters_wide, split_wide}
 use Rattle.plan_expand.specs.Refusals.{IsUnexpanded, no_room as no_place, unexpanded}
-use Rattle.plan_lower.specs.Outputs.{Lowered, IsLowered, lowered_named, lowered_column, lowered_select, lowered_hstack, SelectsTo}
-use Rattle.plan_lower.specs.Projection.{IsOutputRefusal, no_room, untyped, repeated, IsProjectionRefusal, out_of_memory as no_space, refused}
+use Rattle.plan_lower.specs.Outputs.{Lowered, IsLowered, lowered_named}
 use Rattle.plan_properties.specs.Splitting.{IsCondition, IsWhole, split_predicate}
 use Rattle.plan_lower.specs.Predicates.{FiltersBy, IsPredicateRefusal, without_room, without_type, of_other_type, lowered_filter}
 use Rattle.plan_properties.proofs.FilterLemmas.{runs_as, split_predicates, split_runs, stacked}
 use Rattle.plan_lower.proofs.SpelledLemmas.{spelled_means, typed_spelled}
-use Rattle.plan_lower.specs.Lowering.{IsBuilt, IsPlanRefusal, out_of_memory, broken, resolved_select, resolved_hstack, resolved_filter}
+use Rattle.plan_lower.specs.Lowering.{IsBuilt, IsPlanRefusal, out_of_memory, broken, resolved_filter}
 
 abbrev pub output_label : Lowered → Label
 output_label o = label_of o.tree
@@ -149,15 +146,6 @@ module _ (registry : Registry) where
   each_within schema [] each = none_within registry schema
   each_within schema (o ∷ os) each = more_within registry schema o.tree (lowered_named o) o.typed _ _ each.0.typed each.0.wide each.0.casts (each_within schema os each.1)
 
-  only_within : (schema : Columns) (outputs : List Lowered) → AllByRecursion (IsLowered registry schema) outputs → AllWithin registry schema (over_input 0 (map (λ (o : Lowered). named o.tree) outputs) ∷ []) (over_input 0 (map lowered_named outputs) ∷ [])
-  only_within schema outputs each = all_within registry schema _ _ [] [] (each_within schema outputs each) (nothing_within registry schema)
-
-  abbrev source_outputs : List Lowered → List (Named Expression)
-  source_outputs outputs = map (λ (o : Lowered). named o.tree) outputs
-
-  abbrev source_plan : List Lowered → Plan → Plan
-  source_plan outputs source = node (select_op (source_outputs outputs) None) (more source no_more)
-
   pub over_schema : (op : PlanOp (Named Expression)) (input : Plan) (schema own : Columns) → schema_of registry input ≡ Some schema → plan_rule registry op (Some schema ∷ []) ≡ Some own → schema_of registry (node op (more input no_more)) ≡ Some own
   over_schema op input schema own there rule = ap (λ s. plan_rule registry op (s ∷ [])) there ∙ rule
 
@@ -185,56 +173,6 @@ module _ (registry : Registry) where
         bounds = over_bounded registry before op source lowered schema built.source_schema built.lowered_schema within built.bounds;
       }
 
-  select_columns : (schema : Columns) (recorded : Option Columns) (outputs : List Lowered) → AllByRecursion (IsLowered registry schema) outputs → HasDistinctNames (map lowered_column outputs) → plan_rule registry (select_op (source_outputs outputs) recorded) (Some schema ∷ []) ≡ Some (map lowered_column outputs)
-  select_columns schema recorded outputs each distinct =
-      select_schema registry schema output_label (λ (o : Lowered). core o.tree) output_typed recorded outputs (each_typed schema outputs each) distinct
-
-  -- a select over what was built from its input
-  built_over : (source lowered : Plan) (schema : Columns) → IsBuilt registry source lowered schema → (outputs : List Lowered) → AllByRecursion (IsLowered registry schema) outputs → HasDistinctNames (map lowered_column outputs) → IsBuilt registry (source_plan outputs source) (lowered_select outputs lowered) (map lowered_column outputs)
-  built_over source lowered schema built [] each distinct =
-      let there = over_schema (select_op [] None) source schema [] built.source_schema (select_columns schema None [] each distinct) in
-      record {
-        well_formed = (ap is_some there, (built.well_formed, tt));
-        source_schema = there;
-        lowered_schema = refl;
-        accepted = (refl, ((refl, tt), tt));
-        strict = ((tt, tt), ((tt, tt), tt));
-        names = ((tt, tt), ((tt, tt), tt));
-        wide = ((tt, tt), ((tt, tt), tt));
-        split = (tt, ((tt, tt), tt));
-        fits = λ tables f. tt;
-        same = λ tables f. refl;
-        bounds = over_nothing registry (select_op [] None) (select_op [] (Some [])) source refl refl refl;
-      }
-  built_over source lowered schema built (o ∷ os) each distinct =
-      let outputs = o ∷ os in
-      let own = map lowered_column outputs in
-      let here = select_schema registry schema output_label (λ (o : Lowered). o.after) output_typed (Some own) outputs (each_after_typed schema outputs each) distinct in
-      over_built (select_op (source_outputs outputs) None) (select_op (map lowered_named outputs) (Some own)) source lowered schema own built (select_columns schema None outputs each distinct) here refl (each_strict schema outputs each, tt) (each_named schema outputs each, tt) (each_wide schema outputs each, tt) tt refl (only_within schema outputs each)
-      (λ tables input meets. selected_agrees (by_running registry) (by_meaning registry) (map lowered_named outputs) (source_outputs outputs) schema input (length-map outputs lowered_named ∙ sym (length-map outputs (λ (o : Lowered). named o.tree))) (agree schema outputs each) meets)
-
-  -- a select of expressions that become the outputs, over an input that is built, is built
-  pub select_built : (source lowered : Plan) (schema : Columns) (trees : List Expression) (outputs : List Lowered) → IsBuilt registry source lowered schema → SelectsTo registry schema trees outputs → IsBuilt registry (resolved_select trees source) (lowered_select outputs lowered) (map lowered_column outputs)
-  select_built source lowered schema trees outputs built selects =
-      let same_outputs = map-map named (λ (o : Lowered). o.tree) outputs in
-      let expressions = sym same_outputs ∙ ap (map named) selects.trees_are in
-      subst (λ es. IsBuilt registry (node (select_op es None) (more source no_more)) (lowered_select outputs lowered) (map lowered_column outputs)) expressions (built_over source lowered schema built outputs selects.each selects.distinct)
-
-  -- an hstack over what was built from its input
-  stacked_over : (source lowered : Plan) (schema : Columns) → IsBuilt registry source lowered schema → (outputs : List Lowered) → AllByRecursion (IsLowered registry schema) outputs → HasDistinctNames (map lowered_column outputs) → IsBuilt registry (node (hstack_op (source_outputs outputs) None) (more source no_more)) (lowered_hstack schema outputs lowered) (with_columns schema (map lowered_column outputs))
-  stacked_over source lowered schema built outputs each distinct =
-      let own = with_columns schema (map lowered_column outputs) in
-      let there = hstack_schema registry schema output_label (λ (o : Lowered). core o.tree) output_typed None outputs (each_typed schema outputs each) distinct in
-      let here = hstack_schema registry schema output_label (λ (o : Lowered). o.after) output_typed (Some own) outputs (each_after_typed schema outputs each) distinct in
-      over_built (hstack_op (source_outputs outputs) None) (hstack_op (map lowered_named outputs) (Some own)) source lowered schema own built there here refl (each_strict schema outputs each, tt) (each_named schema outputs each, tt) (each_wide schema outputs each, tt) tt refl (only_within schema outputs each)
-      (λ tables input meets. hstacked_agrees (by_running registry) (by_meaning registry) (map lowered_named outputs) (source_outputs outputs) schema input (agree schema outputs each) meets)
-
-  -- an hstack of expressions that become the outputs, over an input that is built, is built
-  pub hstack_built : (source lowered : Plan) (schema : Columns) (trees : List Expression) (outputs : List Lowered) → IsBuilt registry source lowered schema → SelectsTo registry schema trees outputs → IsBuilt registry (resolved_hstack trees source) (lowered_hstack schema outputs lowered) (with_columns schema (map lowered_column outputs))
-  hstack_built source lowered schema trees outputs built selects =
-      let expressions = sym (map-map named (λ (o : Lowered). o.tree) outputs) ∙ ap (map named) selects.trees_are in
-      subst (λ es. IsBuilt registry (node (hstack_op es None) (more source no_more)) (lowered_hstack schema outputs lowered) (with_columns schema (map lowered_column outputs))) expressions (stacked_over source lowered schema built outputs selects.each selects.distinct)
-
   -- a filter over what was built from its input, split
   filter_over : (source lowered : Plan) (schema : Columns) → IsBuilt registry source lowered schema → (o : Lowered) → IsLowered registry schema o → o.typed.type ≡ Truth → IsBuilt registry (resolved_filter o.tree source) (lowered_filter o lowered) schema
   filter_over source lowered schema built o is truth =
@@ -259,7 +197,7 @@ module _ (registry : Registry) where
             let meets = built_meets source lowered schema tables built under in
             runs_as registry schema tables (split_predicate (lowered_named o)) lowered
             ∙ split_runs registry schema (lowered_named o) condition core (plan_run registry tables lowered) meets
-            ∙ filtered_agrees (by_running registry) (by_meaning registry) (lowered_named o) (named o.tree) schema (plan_run registry tables lowered) (agree schema (o ∷ []) (is, tt)) meets
+            ∙ over_agrees FilterWork (by_running registry) (by_meaning registry) ((lowered_named o ∷ []) ∷ []) ((named o.tree ∷ []) ∷ []) schema (plan_run registry tables lowered) refl (lists_agree schema (by_running registry) (by_meaning registry) (lowered_named o ∷ []) (named o.tree ∷ []) [] [] (agree schema (o ∷ []) (is, tt)) (λ rows is. refl)) meets
             ∙ ap (λ input. plan_kernel tables (by_meaning registry) before (input ∷ [])) (built.same tables under);
         bounds = split_bounded registry schema (named o.tree) (lowered_named o) source lowered built.source_schema built.lowered_schema (each_within schema (o ∷ []) (is, tt)) condition predicates built.bounds;
       }
@@ -281,7 +219,7 @@ module _ (registry : Registry) where
       refused_top (node op (more source no_more)) kind error e (subst (λ s. Contains (broken_kinds registry op (s ∷ [])) kind) (sym there) h)
 
   -- a node of a query that can't be resolved over its input is refused, whatever its kind
-  pub unresolved_refused : (op : PlanOp Source) (source : SourcePlan) (schema : Columns) (plan : Plan) (error : PlanError) → schema_of registry (resolved registry source) ≡ Some schema → IsUnexpanded (expanded_kind schema op.kind) error → plan ≡ resolved registry (node op (more source no_more)) → IsPlanRefusal registry plan error
+  pub unresolved_refused : (op : PlanOp Source) (source : SourcePlan) (schema : Columns) (plan : Plan) (error : PlanError) → schema_of registry (resolved registry source) ≡ Some schema → IsUnexpanded (expanded_kind registry (schema ∷ []) op.kind) error → plan ≡ resolved registry (node op (more source no_more)) → IsPlanRefusal registry plan error
   unresolved_refused op source schema plan error there (no_place e) same = out_of_memory e
   unresolved_refused op source schema plan error there (unexpanded kinds kind told by told_there) same =
       let refused = same ∙ resolved_as registry op source schema (Err kinds) there by in
@@ -292,38 +230,11 @@ module _ (registry : Registry) where
   scan_refused_at table schema error h =
       ⊎_elim (λ e. out_of_memory e) (λ p. refused_top (node (scan_op table schema) no_more) InvalidOperation error p.0 (scan_unknown_kind schema p.1)) h
 
-  -- a node of expressions, which breaks the kind for which one of them is refused, and that of repeated names
-  module _ (source : Plan) (schema : Columns) (there : schema_of registry source ≡ Some schema) (make : List (Named Expression) → PlanOp (Named Expression)) (twice : ErrorKind)
-      (breaks : (front : List (Named Expression)) (o : Named Expression) (back : List (Named Expression)) (kind : ErrorKind) → typing registry schema (settled o.expression) ≡ Err kind → Contains (broken_kinds registry (make (front ++ o ∷ back)) (Some schema ∷ [])) kind)
-      (repeats : (before : Columns) (front : List (Named Expression)) (o : Named Expression) (back : List (Named Expression)) → names_of before ≡ map (λ (x : Named Expression). x.label.name) front → is_some (type_at before o.label.name) ≡ true → Contains (broken_kinds registry (make (front ++ o ∷ back)) (Some schema ∷ [])) twice) where
-    -- one of its expressions is refused
-    output_refused : (front back : List Expression) (tree : Expression) (before : Columns) (error : PlanError) → names_of before ≡ map name_of front → IsOutputRefusal registry schema twice tree before error → IsPlanRefusal registry (node (make (map named front ++ named tree ∷ map named back)) (more source no_more)) error
-    output_refused front back tree before error names (no_room e) = out_of_memory e
-    output_refused front back tree before error names (untyped kind e typing) =
-        refused_over (make (map named front ++ named tree ∷ map named back)) source schema kind error there e (breaks (map named front) (named tree) (map named back) kind typing)
-    output_refused front back tree before error names (repeated e found) =
-        refused_over (make (map named front ++ named tree ∷ map named back)) source schema twice error there e (repeats before (map named front) (named tree) (map named back) (names ∙ sym (map-map (λ (o : Named Expression). o.label.name) named front)) found)
-
-    outputs_refused : (trees : List Expression) (error : PlanError) → IsProjectionRefusal registry schema twice trees error → IsPlanRefusal registry (node (make (map named trees)) (more source no_more)) error
-    outputs_refused trees error (no_space e) = out_of_memory e
-    outputs_refused trees error (refused r) =
-        let outputs = sym (map-append named r.front (r.tree ∷ r.back)) ∙ ap (map named) (sym r.split) in
-        subst (λ os. IsPlanRefusal registry (node (make os) (more source no_more)) error) outputs (output_refused r.front r.back r.tree r.before error r.names r.refusal)
-
-  -- so of a select, and of an hstack
-  pub select_refused_at : (source : Plan) (schema : Columns) (trees : List Expression) (error : PlanError) → schema_of registry source ≡ Some schema → IsProjectionRefusal registry schema Duplicate trees error → IsPlanRefusal registry (resolved_select trees source) error
-  select_refused_at source schema trees error there r =
-      outputs_refused source schema there (λ os. select_op os None) Duplicate (select_refused_kind registry schema None) (select_repeated_name registry schema None) trees error r
-
-  pub hstack_refused_at : (source : Plan) (schema : Columns) (trees : List Expression) (error : PlanError) → schema_of registry source ≡ Some schema → IsProjectionRefusal registry schema ComputeError trees error → IsPlanRefusal registry (resolved_hstack trees source) error
-  hstack_refused_at source schema trees error there r =
-      outputs_refused source schema there (λ os. hstack_op os None) ComputeError (hstack_refused_kind registry schema None) (hstack_repeated_name registry schema None) trees error r
-
   -- a filter's predicate is refused
   pub filter_refused_at : (source : Plan) (schema : Columns) (tree : Expression) (error : PlanError) → schema_of registry source ≡ Some schema → IsPredicateRefusal registry schema tree error → IsPlanRefusal registry (resolved_filter tree source) error
   filter_refused_at source schema tree error there (without_room e) = out_of_memory e
   filter_refused_at source schema tree error there (without_type kind e typing) =
-      refused_over (filter_op (named tree)) source schema kind error there e (filter_refused_kind registry schema (named tree) kind typing)
+      refused_over (filter_op (named tree)) source schema kind error there e (first_refused registry schema FilterWork None [] (named tree) [] [] kind typing)
   filter_refused_at source schema tree error there (of_other_type typed e typing other) =
       refused_over (filter_op (named tree)) source schema InvalidOperation error there e (filter_other_type registry schema (named tree) typed typing other)
 

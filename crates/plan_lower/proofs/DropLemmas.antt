@@ -11,10 +11,11 @@ use Rattle.plan_types.specs.declared.error.PlanError.{PlanError}
 use Rattle.plan_types.proofs.SchemaLemmas.{copied_more, test_from_distinct, distinct_from_test}
 use Rattle.plan_dsl.specs.Registry.{Registry}
 use Rattle.plan_dsl.specs.Trees.{node, no_more, more}
-use Rattle.plan_dsl.specs.Plans.{Plan, PlanOp, SourcePlan, SimpleProjectionKind, simple_projection_op, empty_table, drop_op, source_drop, source_function}
-use Rattle.plan_dsl.specs.PlanRules.{plan_rule}
+use Rattle.plan_dsl.specs.Plans.{Plan, PlanOp, SourcePlan, DropWork, SimpleProjectionWork, simple_projection_op, drop_op, source_function}
+use Rattle.plan_dsl.specs.PlanKernels.{gives_nothing}
+use Rattle.plan_dsl.specs.PlanRules.{plan_rule, projection_kinds, schema_of}
 use Rattle.plan_dsl.specs.Refusals.{then_ok}
-use Rattle.plan_dsl.specs.Resolving.{resolved, resolved_kind}
+use Rattle.plan_dsl.specs.Resolving.{over_expanded, over_named, resolved, resolved_kind}
 use Rattle.plan_dsl.specs.Expressions.{selector_trees}
 use Rattle.plan_dsl.specs.declared.function.DslFunction.{DslFunction}
 use Rattle.plan_dsl.specs.declared.function.DslFunction.TheVariants.{Drop}
@@ -23,19 +24,18 @@ use Rattle.plan_dsl.specs.Markers.{names_of_selectors}
 use Rattle.plan_dsl.specs.Drops.{have_names, columns_but, left_but, drop_leaves}
 use Rattle.plan_dsl.proofs.DropLemmas.{drops_have_schemas}
 use Rattle.plan_dsl.proofs.MarkerLemmas.{distinct_kept}
-use Rattle.plan_dsl.proofs.ResolvingLemmas.{drop_resolved}
-use Rattle.plan_bounds.proofs.BoundLemmas.{nothing_within, over_nothing}
+use Rattle.plan_dsl.proofs.RuleLemmas.{unbroken_kinds}
 use Rattle.plan_expand.specs.Refusals.{IsUnexpanded, unexpanded}
 use Rattle.plan_arena.specs.declared.aexpr.AExpr.{AExpr}
 use Rattle.plan_arena.specs.declared.ir.IR.{IR}
-use Rattle.plan_arena.specs.Denotation.{Denotes}
-use Rattle.plan_arena.specs.Items.{HoldsPlan, Grows, plan_layer}
+use Rattle.plan_arena.specs.Items.{Grows, plan_layer}
 use Rattle.plan_arena.specs.Layers.{layer}
-use Rattle.plan_arena.proofs.ItemLemmas.{plan_added, plan_stays, plan_tree_kept}
-use Rattle.plan_lower.specs.Lowering.{IsBuilt, IsPlanRefusal, StandsFor, IsDropAt, IsFunctionAt, IsFunctionRefusal, IsEmptyTableAt}
+use Rattle.plan_arena.proofs.ItemLemmas.{plan_added, plan_stays}
+use Rattle.plan_lower.specs.Lowering.{IsPlanRefusal, StandsFor, IsDropAt, IsFunctionAt, IsFunctionRefusal, IsEmptyTableAt}
 use Rattle.plan_lower.specs.Nodes.{KeepsExpressions}
-use Rattle.plan_lower.proofs.BuiltLemmas.{over_schema, over_built, unexpanded_then, unresolved_refused}
-use Rattle.plan_lower.proofs.PlanLemmas.{empty_denoted}
+use Rattle.plan_lower.specs.Works.{IsWorkAt, IsWorkRefusal, unresolved}
+use Rattle.plan_lower.proofs.BuiltLemmas.{unexpanded_then}
+use Rattle.plan_lower.proofs.WorkLemmas.{work_refused, work_stands}
 
 -- ---- columns one by one
 
@@ -80,67 +80,53 @@ left_lacking schema selectors strict lacks names error found is some told =
 module _ (registry : Registry) where
   drop_rule : (selectors : List Source) (strict : Bool) (schema own : Columns) → HasDistinctNames schema → drop_leaves schema selectors strict ≡ Ok own → plan_rule registry (simple_projection_op own None) (Some schema ∷ []) ≡ Some own
   drop_rule selectors strict schema own distinct left =
-      sym (ap (λ r. plan_rule registry (record { kind = resolved_kind (then_ok r (λ columns. Ok (SimpleProjectionKind columns))); recorded = None }) (Some schema ∷ [])) left)
+      sym (ap (λ r. plan_rule registry (record { kind = resolved_kind (over_expanded (then_ok r (λ columns. Ok (SimpleProjectionWork columns))) []); recorded = None }) (Some schema ∷ [])) left)
       ∙ drops_have_schemas registry selectors strict schema own distinct left
 
-  abbrev under : Columns → Plan → Plan
-  under [] input = empty_table
-  under (column ∷ columns) input = input
+  -- a simple projection gives nothing where it has no columns
+  no_columns : (own : Columns) → gives_nothing (SimpleProjectionWork own) [] ≡ true → length own ≡ 0
+  no_columns [] e = refl
+  no_columns (column ∷ columns) e = absurd cc
 
-  abbrev lowered_projection : Columns → Plan → Plan
-  lowered_projection own input = node (simple_projection_op own (Some own)) (more (under own input) no_more)
+  some_columns : (own : Columns) → gives_nothing (SimpleProjectionWork own) [] ≡ false → 0 < length own
+  some_columns [] e = absurd cc
+  some_columns (column ∷ columns) e = omega arith
 
-  projection_built : (source lowered : Plan) (schema own : Columns) → IsBuilt registry source lowered schema → plan_rule registry (simple_projection_op own None) (Some schema ∷ []) ≡ Some own → IsBuilt registry (node (simple_projection_op own None) (more source no_more)) (lowered_projection own lowered) own
-  projection_built source lowered schema [] built rule =
-      let there = over_schema registry (simple_projection_op [] None) source schema [] built.source_schema rule in
+  -- a drop is a node over one input, and so is its refusal
+  drop_work : (items : List AExpr) (plans : List IR) (n input : ℕ) (schema own : Columns) (selectors : List Source) (strict : Bool) → IsDropAt schema selectors strict plans n input own → IsWorkAt registry schema items plans n input (DropWork strict) (selectors ∷ []) own
+  drop_work items plans n input schema own selectors strict is =
       record {
-        well_formed = (ap is_some there, (built.well_formed, tt));
-        source_schema = there;
-        lowered_schema = refl;
-        accepted = (refl, ((refl, tt), tt));
-        strict = (tt, ((tt, tt), tt));
-        names = (tt, ((tt, tt), tt));
-        wide = (tt, ((tt, tt), tt));
-        split = (tt, ((tt, tt), tt));
-        fits = λ tables f. tt;
-        same = λ tables f. refl;
-        bounds = over_nothing registry (simple_projection_op [] None) (simple_projection_op [] (Some [])) source refl refl refl;
-      }
-  projection_built source lowered schema (column ∷ columns) built rule =
-      let own = column ∷ columns in
-      over_built registry (simple_projection_op own None) (simple_projection_op own (Some own)) source lowered schema own built rule rule refl tt tt tt tt refl (nothing_within registry schema) (λ tables input meets. refl)
-
-  under_denoted : (items : List AExpr) (plans : List IR) (n input : ℕ) (own : Columns) (t : Plan) → (length own ≡ 0 → IsEmptyTableAt plans n) → (0 < length own → n ≡ input) → Denotes (HoldsPlan items plans) input t → Denotes (HoldsPlan items plans) n (under own t)
-  under_denoted items plans n input [] t nothing something d = empty_denoted items plans n (nothing refl)
-  under_denoted items plans n input (column ∷ columns) t nothing something d =
-      let positive : 0 < length (column ∷ columns) = omega arith in
-      subst (λ k. Denotes (HoldsPlan items plans) k t) (sym (something positive)) d
-
-  -- a drop over what its input becomes
-  pub drop_stands : (items items' : List AExpr) (plans new : List IR) (input n : ℕ) (schema own : Columns) (selectors : List Source) (strict : Bool) (source : SourcePlan) (plan : Plan) → KeepsExpressions items items' → Grows plans new → StandsFor registry items plans input schema (resolved registry source) → IsDropAt schema selectors strict new n input own → plan ≡ resolved registry (source_drop selectors strict source) → StandsFor registry items' new n own plan
-  drop_stands items items' plans new input n schema own selectors strict source plan keeps grows s is same =
-      let kept = plan_tree_kept items items' plans new keeps grows input s.lowered s.denotes in
-      let rule = drop_rule selectors strict schema own is.distinct is.left in
-      let there = same ∙ drop_resolved registry selectors strict source schema own s.built.source_schema is.left in
-      record {
-        lowered = lowered_projection own s.lowered;
-        denotes = (is.below ∷ [], record { flat = simple_projection_op own (Some own); item = is.item; denotes = record { same_recorded = refl; kind = refl } }, (under_denoted items' new is.below input own s.lowered is.nothing is.something kept, tt));
-        built = subst (λ p. IsBuilt registry p (lowered_projection own s.lowered) own) (sym there) (projection_built (resolved registry source) s.lowered schema own s.built rule);
+        trees = [];
+        expanded = refl;
+        own = SimpleProjectionWork own;
+        resolved = ap (λ r. then_ok r (λ columns. Ok (SimpleProjectionWork columns))) is.left;
+        outputs = [];
+        trees_are = refl;
+        unbroken = record { each = tt; types = refl; kinds = unbroken_kinds (projection_kinds schema own) (Some own) own (drop_rule selectors strict schema own is.distinct is.left) };
+        whole = tt;
+        columns_are = refl;
+        nodes = [];
+        denote = tt;
+        below = is.below;
+        nothing = λ e. is.nothing (no_columns own e);
+        something = λ e. is.something (some_columns own e);
+        item = is.item;
       }
 
-  -- a drop that is refused
-  pub dropped_refused : (items : List AExpr) (plans : List IR) (input : ℕ) (schema : Columns) (selectors : List Source) (strict : Bool) (source : SourcePlan) (plan : Plan) (error : PlanError) → StandsFor registry items plans input schema (resolved registry source) → IsUnexpanded (drop_leaves schema selectors strict) error → plan ≡ resolved registry (source_drop selectors strict source) → IsPlanRefusal registry plan error
-  dropped_refused items plans input schema selectors strict source plan error s refused same =
-      unresolved_refused registry (drop_op selectors strict) source schema plan error s.built.source_schema (unexpanded_then (drop_leaves schema selectors strict) (λ own. Ok (SimpleProjectionKind own)) error refused) same
+  drop_refusal : (schema : Columns) (selectors : List Source) (strict : Bool) (error : PlanError) → IsUnexpanded (drop_leaves schema selectors strict) error → IsWorkRefusal registry schema (DropWork strict) (selectors ∷ []) error
+  drop_refusal schema selectors strict error refused =
+      unresolved (unexpanded_then (then_ok (drop_leaves schema selectors strict) (λ own. Ok (SimpleProjectionWork own))) (λ own. Ok (over_named [] own)) error (unexpanded_then (drop_leaves schema selectors strict) (λ own. Ok (SimpleProjectionWork own)) error refused))
 
   -- the node that a function leaves stands for it, whatever the function
-  pub function_stands : (items items' : List AExpr) (plans new : List IR) (input n : ℕ) (schema own : Columns) (function : DslFunction) (source : SourcePlan) (plan : Plan) → KeepsExpressions items items' → Grows plans new → StandsFor registry items plans input schema (resolved registry source) → IsFunctionAt schema function new n input own → plan ≡ resolved registry (source_function function source) → StandsFor registry items' new n own plan
-  function_stands items items' plans new input n schema own (Drop function) source plan keeps grows s is same =
-      drop_stands items items' plans new input n schema own (selector_trees function.to_drop) function.strict source plan keeps grows s is same
+  pub function_stands : (items items' : List AExpr) (plans new : List IR) (input n : ℕ) (schema own : Columns) (function : DslFunction) (source : SourcePlan) → KeepsExpressions items items' → Grows plans new → StandsFor registry items plans input schema (resolved registry source) → IsFunctionAt schema function new n input own → StandsFor registry items' new n own (resolved registry (source_function function source))
+  function_stands items items' plans new input n schema own (Drop function) source keeps grows s is =
+      let selectors = selector_trees function.to_drop in
+      work_stands registry (DropWork function.strict) (selectors ∷ []) items items' plans new input n schema own source keeps grows s (drop_work items' new n input schema own selectors function.strict is)
 
-  pub function_refused : (items : List AExpr) (plans : List IR) (input : ℕ) (schema : Columns) (function : DslFunction) (source : SourcePlan) (plan : Plan) (error : PlanError) → StandsFor registry items plans input schema (resolved registry source) → IsFunctionRefusal schema function error → plan ≡ resolved registry (source_function function source) → IsPlanRefusal registry plan error
-  function_refused items plans input schema (Drop function) source plan error s refused same =
-      dropped_refused items plans input schema (selector_trees function.to_drop) function.strict source plan error s refused same
+  pub function_refused : (schema : Columns) (function : DslFunction) (source : SourcePlan) (error : PlanError) → schema_of registry (resolved registry source) ≡ Some schema → IsFunctionRefusal schema function error → IsPlanRefusal registry (resolved registry (source_function function source)) error
+  function_refused schema (Drop function) source error there refused =
+      let selectors = selector_trees function.to_drop in
+      work_refused registry (DropWork function.strict) (selectors ∷ []) schema source error there (drop_refusal schema selectors function.strict error refused)
 
   -- a refusal of a function's input
   pub function_below : (function : DslFunction) (source : SourcePlan) (plan : Plan) (error : PlanError) → ((op : PlanOp Source) → IsPlanRefusal registry (resolved registry (node op (more source no_more))) error) → plan ≡ resolved registry (source_function function source) → IsPlanRefusal registry plan error

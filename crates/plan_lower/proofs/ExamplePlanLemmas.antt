@@ -17,7 +17,7 @@ use Rattle.plan_arena.proofs.ItemLemmas.{plan_laws}
 use Rattle.plan_dsl.specs.Samples.{all}
 use Rattle.plan_dsl.specs.Sources.{written}
 use Rattle.plan_bounds.specs.Bounds.{IsBounded}
-use Rattle.plan_bounds.specs.PlanCounts.{plan_needs, plan_idle, plan_size}
+use Rattle.plan_bounds.specs.PlanCounts.{plan_needs, plan_idle, plan_most, plan_size}
 use Rattle.plan_lower.specs.Groups.{GroupsTo, HasExpandedGroups}
 use Rattle.plan_lower.specs.Lowering.{IsBuilt}
 use Rattle.plan_infer.specs.Samples.{int8, int32, one_column, two_columns, a, b, columns_and}
@@ -42,7 +42,7 @@ lowered_denotes plans is = (
   record {
     flat = select_op (node_named (codes "a") 2 ∷ []) (Some (one_column int32));
     item = item_at plans sum_layers 1 _ is refl;
-    denotes = record { same_recorded = refl; kind = (named strict_sum ∷ [], refl, (refl, (3 ∷ 1 ∷ [], refl, ((0 ∷ [], refl, (([], refl, tt), tt)), (([], refl, tt), tt))), tt)) };
+    denotes = record { same_recorded = refl; kind = ((named strict_sum ∷ []) ∷ [], refl, ((refl, (3 ∷ 1 ∷ [], refl, ((0 ∷ [], refl, (([], refl, tt), tt)), (([], refl, tt), tt))), tt), tt)) };
   },
   (scan_denotes strict_items plans 0 (Some 0) two_columns (item_at plans sum_layers 0 _ is refl), tt),
 )
@@ -62,8 +62,8 @@ bounded =
     let casts : cast_count lowered_query ≡ 1 = refl in
     let needs : plan_needs true [] query ≡ 1 = refl in
     let idle : plan_idle false [] lowered_query ≡ 0 = refl in
-    let size : plan_size false lowered_query ≡ 5 = refl in
-    let whole : plan_size true query ≡ 5 = refl in
+    let size : plan_size lowered_query ≡ 5 = refl in
+    let whole : plan_most [] query ≡ 5 = refl in
     record { casts = omega (arith, casts, needs); idle = omega (arith, idle); size = omega (arith, size, whole) }
 
 pub built : IsBuilt [] query lowered_query (one_column int32)

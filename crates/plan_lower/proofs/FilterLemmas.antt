@@ -22,7 +22,7 @@ filters_denoted items plans [] (q ∷ qs) n input t are named d = absurd named
 filters_denoted items plans (p ∷ ps) [] n input t are named d = absurd named
 filters_denoted items plans (p ∷ ps) (q ∷ qs) n input t are named d = (
   are.0 ∷ [],
-  record { flat = filter_op p; item = are.1; denotes = record { same_recorded = refl; kind = (q, refl, (named.0, named.1, tt)) } },
+  record { flat = filter_op p; item = are.1; denotes = record { same_recorded = refl; kind = ((q ∷ []) ∷ [], refl, ((named.0, named.1, tt), tt)) } },
   (filters_denoted items plans ps qs are.0 input t are.2 named.2 d, tt),
 )
 

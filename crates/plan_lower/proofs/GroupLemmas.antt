@@ -1,28 +1,27 @@
 -- Group-bys: their columns, what is built from them, and why one isn't lowered.
-use Rattle.std.proofs.Common.{◌≡◌, ◌||◌, ℕ, zero, suc, ◌+◌, ◌<◌, ◌≤◌, ◌==◌, List, [], ◌∷◌, ◌++◌, length, map, drop, get_or, Bool, true, false, is_some, Some, None, Ok, slice_get, refl, sym, ap, ◌∙◌, subst, arith, append_assoc, append-nil}
-use Rattle.std.specs.List.{AllByRecursion, Contains, list_all}
+use Rattle.std.proofs.Common.{◌≡◌, ◌||◌, ℕ, zero, suc, ◌+◌, ◌<◌, ◌≤◌, ◌==◌, List, [], ◌∷◌, ◌++◌, length, map, drop, get_or, Bool, true, false, is_some, Some, None, Ok, slice_get, refl, sym, ap, ◌∙◌, subst, arith, append_assoc, append-nil, ⊎_elim}
+use Rattle.std.specs.List.{AllByRecursion, Contains, flat_map, list_all}
 use Rattle.std.specs.Option.{option_map}
 use Rattle.std.proofs.lemmas.List.{drop_all, map-append, length-map}
 use Rattle.std.proofs.lemmas.Bool.{and_parts}
 use Rattle.std.proofs.lemmas.Option.{slice_get_within, slice_get-get_or, slice_get-map, get_or_from_slice_get}
-use Rattle.std.proofs.lemmas.List.Elements.{Contains-append_right, Contains-push}
 use Rattle.plan_types.specs.Types.{Ty}
 use Rattle.plan_types.specs.Schemas.{Name, Columns, same_name, type_at, HasDistinctNames, is_among, repeats, names_of}
 use Rattle.plan_types.specs.Errors.{at_top}
+use Rattle.plan_types.specs.declared.error.ErrorKind.{ErrorKind}
 use Rattle.plan_types.specs.declared.error.ErrorKind.TheVariants.{ComputeError, Duplicate}
 use Rattle.plan_types.specs.declared.error.PlanError.{PlanError}
 use Rattle.plan_types.proofs.ListLemmas.{item_left, map-map}
 use Rattle.plan_types.proofs.SchemaLemmas.{repeated_test}
 use Rattle.plan_dsl.specs.Registry.{Registry}
-use Rattle.plan_dsl.specs.Trees.{node, no_more, more}
 use Rattle.plan_dsl.specs.Ops.{Expression}
 use Rattle.plan_dsl.specs.Aliases.{core, spelled}
 use Rattle.plan_dsl.specs.Literals.{settled}
 use Rattle.plan_dsl.specs.Names.{name_of}
-use Rattle.plan_dsl.specs.Plans.{Plan, SourcePlan, Named, named, GroupByKind, group_by_op, source_group_by}
-use Rattle.plan_dsl.specs.PlanRules.{all_kinds, broken_kinds, group_kinds, key_kinds, kind_where, name_kinds, schema_of, type_in_groups}
+use Rattle.plan_dsl.specs.Plans.{GroupByWork, Named, named, group_by_op}
+use Rattle.plan_dsl.specs.PlanRules.{TypedOutput, aggregate_columns, broken_kinds, names_in, type_in_groups, work_kinds}
 use Rattle.plan_dsl.specs.Refusals.{then_ok}
-use Rattle.plan_dsl.specs.Resolving.{over_keys, resolved}
+use Rattle.plan_dsl.specs.Resolving.{expanded_lists, over_expanded, over_keys}
 use Rattle.plan_dsl.specs.Sources.{Source, is_plain, written}
 use Rattle.plan_dsl.specs.Expressions.{plain_tree, tree_of}
 use Rattle.plan_dsl.specs.declared.expr.Expr.{Expr}
@@ -30,18 +29,13 @@ use Rattle.plan_dsl.proofs.ExpansionLemmas.{what_is_plain}
 use Rattle.plan_dsl.specs.Expansion.{expansions, key_names}
 use Rattle.plan_dsl.specs.Typing.{Typed, typing}
 use Rattle.plan_dsl.proofs.GroupLemmas.{or_right}
-use Rattle.plan_dsl.proofs.KernelLemmas.{grouped_agrees}
-use Rattle.plan_dsl.proofs.ResolvingLemmas.{group_resolved}
-use Rattle.plan_dsl.proofs.RuleLemmas.{aggregate_refused_kind, group_schema, key_refused_kind, no_keys_kind}
+use Rattle.plan_dsl.proofs.RuleLemmas.{distinct_names, first_refused, group_repeated_names, no_keys_kind, no_types, repeated_name, second_refused}
 use Rattle.plan_arena.specs.declared.aexpr.AExpr.{AExpr}
 use Rattle.plan_arena.specs.declared.ir.IR.{IR}
 use Rattle.plan_arena.specs.Layers.{layer}
 use Rattle.plan_arena.specs.declared.expr_ir.ExprIR.{ExprIR}
 use Rattle.plan_arena.specs.Items.{Grows, named_node, plan_layer}
-use Rattle.plan_arena.specs.Runs.{by_running}
-use Rattle.plan_arena.proofs.ItemLemmas.{any_node, named_kept, plan_added, plan_tree_kept}
-use Rattle.plan_dsl.specs.PlanMeaning.{by_meaning}
-use Rattle.plan_bounds.proofs.BoundLemmas.{all_within, nothing_within}
+use Rattle.plan_arena.proofs.ItemLemmas.{any_node, named_kept, plan_added}
 use Rattle.plan_expand.specs.Refusals.{IsUnexpanded}
 use Rattle.plan_lower.proofs.SpelledLemmas.{typed_spelled}
 use Rattle.plan_infer.specs.KeptTypes.{AllKept, IsKept, IsRight, KeepsEntry, KeepsTyped, typed_of}
@@ -49,11 +43,13 @@ use Rattle.plan_infer.specs.declared.type_table.Inferred.{Inferred}
 use Rattle.plan_infer.specs.declared.type_table.TypeTable.{TypeTable}
 use Rattle.plan_infer.proofs.TableLemmas.{keeps_one, kept_typing}
 use Rattle.plan_lower.specs.Groups.{GroupsTo, HasAggregates, HasExpandedGroups, HasGroups, IsAggregateRefusal, not_typed, twice, IsGroupRefusal, short, without_keys, of_keys, of_aggregates, IsUngrouped, keys_unexpanded, aggregates_unexpanded, not_grouped, group_column, group_columns_of, lowered_groups, named_in_groups}
-use Rattle.plan_lower.specs.Lowering.{IsBuilt, IsGroupByAt, IsPlanRefusal, out_of_memory, StandsFor, resolved_groups}
+use Rattle.plan_lower.specs.Lowering.{IsGroupByAt}
 use Rattle.plan_lower.specs.Nodes.{KeepsExpressions}
 use Rattle.plan_lower.specs.Outputs.{HasOutputs, IsLowered, Lowered, lowered_column, lowered_named}
 use Rattle.plan_lower.specs.Projection.{IsOutput, IsOutputRefusal, no_room, untyped, repeated, IsProjectionRefusal, out_of_memory as no_space, refused, Output, output_node, Projects}
-use Rattle.plan_lower.proofs.BuiltLemmas.{agree, each_after_typed, each_named, each_strict, each_typed, each_wide, each_within, output_label, output_typed, over_built, refused_over, unexpanded_then, unresolved_refused}
+use Rattle.plan_lower.proofs.BuiltLemmas.{unexpanded_then}
+use Rattle.plan_lower.proofs.WorkLemmas.{columns_are, names_are, only_types, outputs_against}
+use Rattle.plan_lower.specs.Works.{IsWorkAt, IsWorkRefusal, against_a_rule, lowered_names, lowered_output, unresolved, without_memory}
 
 -- ---- names
 
@@ -76,13 +72,6 @@ repeats_left (x ∷ xs) ys h = both_kept (is_among x xs) (is_among x (xs ++ ys))
 pub repeats_right : (xs ys : List Name) → repeats ys ≡ true → repeats (xs ++ ys) ≡ true
 repeats_right [] ys h = h
 repeats_right (x ∷ xs) ys h = or_right (is_among x (xs ++ ys)) (repeats (xs ++ ys)) (repeats_right xs ys h)
-
--- the names of a projection of which one is refused for its name repeat
-pub refused_name : (before : Columns) (front : List Expression) (tree : Expression) (back trees : List Expression) → trees ≡ front ++ tree ∷ back → names_of before ≡ map name_of front → is_some (type_at before (name_of tree)) ≡ true → repeats (map name_of trees) ≡ true
-refused_name before front tree back trees split names found =
-    ap (λ l. repeats (map name_of l)) split
-    ∙ ap repeats (map-append name_of front (tree ∷ back) ∙ ap (λ l. l ++ name_of tree ∷ map name_of back) (sym names))
-    ∙ repeated_test before (name_of tree) (map name_of back) found
 
 -- ---- columns in groups
 
@@ -282,40 +271,49 @@ groups_at registry schema items plans new item n input keys aggs nodes others ow
 -- ---- what is built
 
 module _ (registry : Registry) where
-  abbrev source_outputs : List Lowered → List (Named Expression)
-  source_outputs outputs = map (λ (o : Lowered). named o.tree) outputs
+  group_columns : (outputs : List Lowered) → aggregate_columns (map lowered_output outputs) ≡ map group_column outputs
+  group_columns outputs = map-map (λ (o : TypedOutput). (o.name, type_in_groups o.typed)) lowered_output outputs
 
-  -- a group-by over what was built from its input
-  grouped_over : (source lowered : Plan) (schema : Columns) → IsBuilt registry source lowered schema → (keys aggs : List Lowered) → AllByRecursion (IsLowered registry schema) keys → AllByRecursion (IsLowered registry schema) aggs → HasDistinctNames (group_columns_of keys aggs) → ¬ (keys ≡ []) → IsBuilt registry (node (group_by_op (source_outputs keys) (source_outputs aggs) None) (more source no_more)) (lowered_groups keys aggs lowered) (group_columns_of keys aggs)
-  grouped_over source lowered schema built [] aggs each also distinct some = absurd (some refl)
-  grouped_over source lowered schema built (k ∷ ks) aggs each also distinct some =
-      let keys = k ∷ ks in
-      let own = group_columns_of keys aggs in
-      let there = group_schema registry schema output_label (λ (o : Lowered). core o.tree) output_typed None k ks aggs (each_typed registry schema keys each) (each_typed registry schema aggs also) distinct in
-      let here = group_schema registry schema output_label (λ (o : Lowered). o.after) output_typed (Some own) k ks aggs (each_after_typed registry schema keys each) (each_after_typed registry schema aggs also) distinct in
-      over_built registry (group_by_op (source_outputs keys) (source_outputs aggs) None) (group_by_op (map lowered_named keys) (map lowered_named aggs) (Some own)) source lowered schema own built there here refl (each_strict registry schema keys each, (each_strict registry schema aggs also, tt)) (each_named registry schema keys each, (each_named registry schema aggs also, tt)) (each_wide registry schema keys each, (each_wide registry schema aggs also, tt)) tt refl
-      (all_within registry schema _ _ _ _ (each_within registry schema keys each) (all_within registry schema _ _ [] [] (each_within registry schema aggs also) (nothing_within registry schema)))
-      (λ tables input meets. grouped_agrees (by_running registry) (by_meaning registry) (map lowered_named keys) (source_outputs keys) (map lowered_named aggs) (source_outputs aggs) schema input (agree registry schema keys each) (agree registry schema aggs also) meets)
+  group_names : (keys aggs : List Lowered) → lowered_names keys ++ lowered_names aggs ≡ names_of (group_columns_of keys aggs)
+  group_names keys aggs =
+      let front = names_are keys in
+      let behind = map-map (λ (c : Name × Ty). c.0) group_column aggs in
+      (λ i. front i ++ sym behind i) ∙ sym (map-append (λ (c : Name × Ty). c.0) (map lowered_column keys) (map group_column aggs))
 
-  -- a group-by of expressions that become keys and aggregates, over an input that is built, is built
-  groups_built : (source lowered : Plan) (schema : Columns) (keys aggs : List Expression) (outputs others : List Lowered) → IsBuilt registry source lowered schema → GroupsTo registry schema keys aggs outputs others → IsBuilt registry (resolved_groups keys aggs source) (lowered_groups outputs others lowered) (group_columns_of outputs others)
-  groups_built source lowered schema keys aggs outputs others built groups =
-      let first = sym (map-map named (λ (o : Lowered). o.tree) outputs) ∙ ap (map named) groups.keys_are in
-      let later = sym (map-map named (λ (o : Lowered). o.tree) others) ∙ ap (map named) groups.aggs_are in
-      subst (λ es. IsBuilt registry (node (group_by_op es (map named aggs) None) (more source no_more)) (lowered_groups outputs others lowered) (group_columns_of outputs others)) first (
-      subst (λ es. IsBuilt registry (node (group_by_op (source_outputs outputs) es None) (more source no_more)) (lowered_groups outputs others lowered) (group_columns_of outputs others)) later (grouped_over source lowered schema built outputs others groups.each_key groups.each_agg groups.distinct groups.some))
+  -- keys of which there are some, with aggregates under distinct names, break no rule
+  group_unbroken : (schema : Columns) (keys aggs : List Lowered) → HasDistinctNames (group_columns_of keys aggs) → ¬ (keys ≡ []) → work_kinds GroupByWork schema (lowered_names keys ∷ lowered_names aggs ∷ []) ≡ []
+  group_unbroken schema [] aggs distinct some = absurd (some refl)
+  group_unbroken schema (k ∷ ks) aggs distinct some =
+      distinct_names Duplicate (lowered_names (k ∷ ks) ++ lowered_names aggs) (group_columns_of (k ∷ ks) aggs) (group_names (k ∷ ks) aggs) distinct
 
-  -- a group-by over what its input becomes
-  pub groups_stand : (items items' : List AExpr) (plans new : List IR) (input n : ℕ) (schema own : Columns) (keys aggs : List Source) (source : SourcePlan) (plan : Plan) → KeepsExpressions items items' → Grows plans new → StandsFor registry items plans input schema (resolved registry source) → IsGroupByAt registry schema items' new n input keys aggs own → plan ≡ resolved registry (source_group_by keys aggs source) → StandsFor registry items' new n own plan
-  groups_stand items items' plans new input n schema own keys aggs source plan keeps grows s is same =
+  -- a group-by is a node over one input
+  pub groups_work : (items : List AExpr) (plans : List IR) (n input : ℕ) (schema own : Columns) (keys aggs : List Source) → IsGroupByAt registry schema items plans n input keys aggs own → IsWorkAt registry schema items plans n input GroupByWork (keys ∷ aggs ∷ []) own
+  groups_work items plans n input schema own keys aggs is =
       let has = is.has.lowered in
-      let lowered = lowered_groups has.key_outputs has.agg_outputs s.lowered in
-      let there = same ∙ group_resolved registry keys aggs is.has.trees is.has.aggregates source schema s.built.source_schema is.has.expanded is.has.also in
-      let built = groups_built (resolved registry source) s.lowered schema is.has.trees is.has.aggregates has.key_outputs has.agg_outputs s.built has.groups in
+      let front = columns_are has.key_outputs in
+      let behind = group_columns has.agg_outputs in
+      let first = has.groups.keys_are in
+      let later = has.groups.aggs_are in
       record {
-        lowered = lowered;
-        denotes = (input ∷ [], record { flat = group_by_op is.nodes is.others (Some own); item = is.item; denotes = record { same_recorded = ap Some has.columns_are; kind = (map lowered_named has.key_outputs, map lowered_named has.agg_outputs, refl, has.keys_denote, has.aggs_denote) } }, (plan_tree_kept items items' plans new keeps grows input s.lowered s.denotes, tt));
-        built = subst (λ c. IsBuilt registry plan lowered c) (sym has.columns_are) (subst (λ p. IsBuilt registry p lowered (group_columns_of has.key_outputs has.agg_outputs)) (sym there) built);
+        trees = is.has.trees ∷ is.has.aggregates ∷ [];
+        expanded = ap (λ r. then_ok r (over_keys schema aggs)) is.has.expanded ∙ ap (λ r. then_ok r (λ others. Ok (is.has.trees ∷ others ∷ []))) is.has.also;
+        own = GroupByWork;
+        resolved = refl;
+        outputs = has.key_outputs ∷ has.agg_outputs ∷ [];
+        trees_are = λ i. first i ∷ later i ∷ [];
+        unbroken = record {
+          each = (has.groups.each_key, (has.groups.each_agg, tt));
+          types = ap (λ l. l ++ (flat_map {X = Lowered} {A = ErrorKind} (λ o. []) has.agg_outputs ++ [])) (no_types has.key_outputs) ∙ only_types has.agg_outputs;
+          kinds = group_unbroken schema has.key_outputs has.agg_outputs has.groups.distinct has.groups.some;
+        };
+        whole = tt;
+        columns_are = has.columns_are ∙ (λ i. sym front i ++ sym behind i);
+        nodes = is.nodes ∷ is.others ∷ [];
+        denote = (has.keys_denote, (has.aggs_denote, tt));
+        below = input;
+        nothing = λ e. absurd cc;
+        something = λ e. refl;
+        item = is.item;
       }
 
   -- ---- refusals
@@ -323,65 +321,46 @@ module _ (registry : Registry) where
   -- names that repeat break their rule
   names_broken : (schema : Columns) (keys aggs : List Expression) → repeats (map name_of keys ++ map name_of aggs) ≡ true → Contains (broken_kinds registry (group_by_op (map named keys) (map named aggs) None) (Some schema ∷ [])) Duplicate
   names_broken schema keys aggs h =
-      let ks = map named keys in
-      let os = map named aggs in
       let front = map-map (λ (o : Named Expression). o.label.name) named keys in
       let behind = map-map (λ (o : Named Expression). o.label.name) named aggs in
-      let names = map-append (λ (o : Named Expression). o.label.name) ks os ∙ (λ i. front i ++ behind i) in
-      let repeated = ap repeats names ∙ h in
-      Contains-append_right (all_kinds registry schema ks ++ (all_kinds registry schema os ++ [])) (group_kinds ks os) Duplicate (Contains-append_right (key_kinds ks) (name_kinds Duplicate (ks ++ os)) Duplicate (subst (λ b. Contains (kind_where b Duplicate) Duplicate) (sym repeated) (Contains-push [] Duplicate)))
+      group_repeated_names registry schema None (map named keys) (map named aggs) ((λ i. repeats (front i ++ behind i)) ∙ h)
 
-  module _ (source : Plan) (schema : Columns) (there : schema_of registry source ≡ Some schema) where
-    twice_refused : (keys aggs : List Expression) (error : PlanError) → error ≡ at_top Duplicate → repeats (map name_of keys ++ map name_of aggs) ≡ true → IsPlanRefusal registry (resolved_groups keys aggs source) error
-    twice_refused keys aggs error e h =
-        refused_over registry (group_by_op (map named keys) (map named aggs) None) source schema Duplicate error there e (names_broken schema keys aggs h)
+  module _ (schema : Columns) (error : PlanError) where
+    -- keys and aggregates, as their sources are expanded
+    module _ (keys aggs : List Source) (trees others : List Expression) (is : expansions [] schema keys ≡ Ok trees) (also : expansions (key_names (map written trees)) schema aggs ≡ Ok others) where
+      both_expanded : expanded_lists schema GroupByWork (keys ∷ aggs ∷ []) ≡ Ok (trees ∷ others ∷ [])
+      both_expanded = ap (λ r. then_ok r (over_keys schema aggs)) is ∙ ap (λ r. then_ok r (λ found. Ok (trees ∷ found ∷ []))) also
 
-    -- of a key, and of an aggregate
-    key_refused : (keys aggs front back : List Expression) (tree : Expression) (before : Columns) (error : PlanError) → keys ≡ front ++ tree ∷ back → names_of before ≡ map name_of front → IsOutputRefusal registry schema Duplicate tree before error → IsPlanRefusal registry (resolved_groups keys aggs source) error
-    key_refused keys aggs front back tree before error split names (no_room e) = out_of_memory e
-    key_refused keys aggs front back tree before error split names (untyped kind e typing) =
-        let outputs = ap (map named) split ∙ map-append named front (tree ∷ back) in
-        let breaks = key_refused_kind registry schema None (map named front) (named tree) (map named back) (map named aggs) kind typing in
-        refused_over registry (group_by_op (map named keys) (map named aggs) None) source schema kind error there e (subst (λ os. Contains (broken_kinds registry (group_by_op os (map named aggs) None) (Some schema ∷ [])) kind) (sym outputs) breaks)
-    key_refused keys aggs front back tree before error split names (repeated e found) =
-        twice_refused keys aggs error e (repeats_left (map name_of keys) (map name_of aggs) (refused_name before front tree back keys split names found))
+      of_kind : (kind : ErrorKind) → error ≡ at_top kind → Contains (broken_kinds registry (group_by_op (map named trees) (map named others) None) (Some schema ∷ [])) kind → IsWorkRefusal registry schema GroupByWork (keys ∷ aggs ∷ []) error
+      of_kind kind e breaks = against_a_rule (trees ∷ others ∷ []) GroupByWork kind both_expanded refl e breaks
 
-    aggregate_refused : (keys aggs front back : List Expression) (tree : Expression) (before : Columns) (error : PlanError) → aggs ≡ front ++ tree ∷ back → names_of before ≡ map name_of front → IsOutputRefusal registry schema Duplicate tree before error → IsPlanRefusal registry (resolved_groups keys aggs source) error
-    aggregate_refused keys aggs front back tree before error split names (no_room e) = out_of_memory e
-    aggregate_refused keys aggs front back tree before error split names (untyped kind e typing) =
-        let outputs = ap (map named) split ∙ map-append named front (tree ∷ back) in
-        let breaks = aggregate_refused_kind registry schema None (map named keys) (map named front) (named tree) (map named back) kind typing in
-        refused_over registry (group_by_op (map named keys) (map named aggs) None) source schema kind error there e (subst (λ os. Contains (broken_kinds registry (group_by_op (map named keys) os None) (Some schema ∷ [])) kind) (sym outputs) breaks)
-    aggregate_refused keys aggs front back tree before error split names (repeated e found) =
-        twice_refused keys aggs error e (repeats_right (map name_of keys) (map name_of aggs) (refused_name before front tree back aggs split names found))
+      keys_against : IsProjectionRefusal registry schema Duplicate trees error → IsWorkRefusal registry schema GroupByWork (keys ∷ aggs ∷ []) error
+      keys_against r =
+          ⊎_elim (λ e. without_memory e) (λ a. of_kind a.0 a.1 a.2) (outputs_against registry schema GroupByWork Duplicate (λ os. os ∷ map named others ∷ []) (λ front o back kind. first_refused registry schema GroupByWork None front o back (map named others ∷ []) kind) (λ before front o back names found.
+          group_repeated_names registry schema None (front ++ o ∷ back) (map named others) (repeats_left (names_in (front ++ o ∷ back)) (names_in (map named others)) (repeated_name registry schema before front o back names found))) trees error r)
 
-    keys_refused : (keys aggs : List Expression) (error : PlanError) → IsProjectionRefusal registry schema Duplicate keys error → IsPlanRefusal registry (resolved_groups keys aggs source) error
-    keys_refused keys aggs error (no_space e) = out_of_memory e
-    keys_refused keys aggs error (refused r) = key_refused keys aggs r.front r.back r.tree r.before error r.split r.names r.refusal
+      aggregates_against : IsProjectionRefusal registry schema Duplicate others error → IsWorkRefusal registry schema GroupByWork (keys ∷ aggs ∷ []) error
+      aggregates_against r =
+          ⊎_elim (λ e. without_memory e) (λ a. of_kind a.0 a.1 a.2) (outputs_against registry schema GroupByWork Duplicate (λ os. map named trees ∷ os ∷ []) (λ front o back kind. second_refused registry schema GroupByWork None (map named trees) front o back [] kind) (λ before front o back names found.
+          group_repeated_names registry schema None (map named trees) (front ++ o ∷ back) (repeats_right (names_in (map named trees)) (names_in (front ++ o ∷ back)) (repeated_name registry schema before front o back names found))) others error r)
 
-    aggregates_refused : (keys aggs : List Expression) (error : PlanError) → IsProjectionRefusal registry schema Duplicate aggs error → IsPlanRefusal registry (resolved_groups keys aggs source) error
-    aggregates_refused keys aggs error (no_space e) = out_of_memory e
-    aggregates_refused keys aggs error (refused r) = aggregate_refused keys aggs r.front r.back r.tree r.before error r.split r.names r.refusal
+      behind_keys : IsAggregateRefusal registry schema (map name_of trees) others error → IsWorkRefusal registry schema GroupByWork (keys ∷ aggs ∷ []) error
+      behind_keys (not_typed r) = aggregates_against r
+      behind_keys (twice e h) = of_kind Duplicate e (names_broken schema trees others h)
 
-    behind_keys_refused : (keys aggs : List Expression) (error : PlanError) → IsAggregateRefusal registry schema (map name_of keys) aggs error → IsPlanRefusal registry (resolved_groups keys aggs source) error
-    behind_keys_refused keys aggs error (not_typed r) = aggregates_refused keys aggs error r
-    behind_keys_refused keys aggs error (twice e h) = twice_refused keys aggs error e h
+      grouped_against : IsGroupRefusal registry schema trees others error → IsWorkRefusal registry schema GroupByWork (keys ∷ aggs ∷ []) error
+      grouped_against (short e) = without_memory e
+      grouped_against (without_keys e none) =
+          of_kind ComputeError e (subst (λ ks. Contains (broken_kinds registry (group_by_op (map named ks) (map named others) None) (Some schema ∷ [])) ComputeError) (sym none) (no_keys_kind registry schema None (map named others)))
+      grouped_against (of_keys r) = keys_against r
+      grouped_against (of_aggregates r) = behind_keys r
 
-    groups_refused_at : (keys aggs : List Expression) (error : PlanError) → IsGroupRefusal registry schema keys aggs error → IsPlanRefusal registry (resolved_groups keys aggs source) error
-    groups_refused_at keys aggs error (short e) = out_of_memory e
-    groups_refused_at keys aggs error (without_keys e none) =
-        subst (λ ks. IsPlanRefusal registry (resolved_groups ks aggs source) error) (sym none) (refused_over registry (group_by_op [] (map named aggs) None) source schema ComputeError error there e (no_keys_kind registry schema None (map named aggs)))
-    groups_refused_at keys aggs error (of_keys r) = keys_refused keys aggs error r
-    groups_refused_at keys aggs error (of_aggregates r) = behind_keys_refused keys aggs error r
-
-  -- a refusal of a group-by
-  pub groups_refused : (items : List AExpr) (plans : List IR) (input : ℕ) (schema : Columns) (keys aggs : List Source) (source : SourcePlan) (plan : Plan) (error : PlanError) → StandsFor registry items plans input schema (resolved registry source) → IsUngrouped registry schema keys aggs error → plan ≡ resolved registry (source_group_by keys aggs source) → IsPlanRefusal registry plan error
-  groups_refused items plans input schema keys aggs source plan error s (keys_unexpanded r) same =
-      unresolved_refused registry (group_by_op keys aggs None) source schema plan error s.built.source_schema (unexpanded_then (expansions [] schema keys) (over_keys schema aggs) error r) same
-  groups_refused items plans input schema keys aggs source plan error s (aggregates_unexpanded trees is r) same =
-      let beside = unexpanded_then (expansions (key_names (map written trees)) schema aggs) (λ others. Ok (GroupByKind (map named trees) (map named others))) error r in
-      let whole = subst (λ found. IsUnexpanded (then_ok found (over_keys schema aggs)) error) (sym is) beside in
-      unresolved_refused registry (group_by_op keys aggs None) source schema plan error s.built.source_schema whole same
-  groups_refused items plans input schema keys aggs source plan error s (not_grouped trees others is also r) same =
-      let there = same ∙ group_resolved registry keys aggs trees others source schema s.built.source_schema is also in
-      subst (λ p. IsPlanRefusal registry p error) (sym there) (groups_refused_at (resolved registry source) schema s.built.source_schema trees others error r)
+    -- a refusal of a group-by is one of a node over one input
+    pub groups_refusal : (keys aggs : List Source) → IsUngrouped registry schema keys aggs error → IsWorkRefusal registry schema GroupByWork (keys ∷ aggs ∷ []) error
+    groups_refusal keys aggs (keys_unexpanded r) =
+        unresolved (unexpanded_then (then_ok (expansions [] schema keys) (over_keys schema aggs)) (over_expanded (Ok GroupByWork)) error (unexpanded_then (expansions [] schema keys) (over_keys schema aggs) error r))
+    groups_refusal keys aggs (aggregates_unexpanded trees is r) =
+        let beside = unexpanded_then (expansions (key_names (map written trees)) schema aggs) (λ others. Ok (trees ∷ others ∷ [])) error r in
+        let whole = subst (λ found. IsUnexpanded (then_ok found (over_keys schema aggs)) error) (sym is) beside in
+        unresolved (unexpanded_then (then_ok (expansions [] schema keys) (over_keys schema aggs)) (over_expanded (Ok GroupByWork)) error whole)
+    groups_refusal keys aggs (not_grouped trees others is also r) = grouped_against keys aggs trees others is also r

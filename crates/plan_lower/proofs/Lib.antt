@@ -13,3 +13,4 @@ mod RecordingLemmas
 mod SpelledLemmas
 mod StepLemmas
 mod TopNumberLemmas
+mod WorkLemmas

@@ -1,5 +1,5 @@
 -- Lowering of plans, node by node.
-use Rattle.std.proofs.Common.{◌≡◌, ◌⊎◌, ℕ, ◌<◌, List, [], ◌∷◌, ◌++◌, length, map, true, false, Option, Some, None, Ok, slice_get, refl, sym, ap, ◌∙◌, subst, arith}
+use Rattle.std.proofs.Common.{◌≡◌, ◌⊎◌, ℕ, ◌<◌, List, [], ◌∷◌, ◌++◌, length, map, true, false, Option, Some, None, Ok, slice_get, refl, sym, ap, ◌∙◌, subst, arith, ⊎_elim}
 use Rattle.plan_types.specs.Schemas.{Columns, HasDistinctNames, all_known}
 use Rattle.plan_types.specs.declared.error.ErrorKind.TheVariants.{Duplicate, InvalidOperation, ComputeError, NoMemory}
 use Rattle.plan_types.specs.Errors.{no_memory, IsMemoryOr}
@@ -7,13 +7,16 @@ use Rattle.plan_types.specs.declared.error.PlanError.{PlanError}
 use Rattle.plan_dsl.specs.Registry.{Registry}
 use Rattle.plan_dsl.specs.Trees.{node, no_more, more}
 use Rattle.plan_dsl.specs.Ops.{Expression}
-use Rattle.plan_dsl.specs.Plans.{PlanOp, Plan, SourcePlan, Named, named, SelectKind, HStackKind, FilterKind, source_select, source_hstack, source_filter, scan_op, select_op, hstack_op, filter_op, empty_table}
+use Rattle.plan_dsl.specs.Plans.{PlanOp, Plan, SourcePlan, Named, named, Work, SelectWork, HStackWork, FilterWork, source_filter, scan_op, select_op, hstack_op, filter_op}
 use Rattle.plan_dsl.specs.PlanRules.{with_columns}
 use Rattle.plan_dsl.specs.Sources.{Source}
-use Rattle.plan_dsl.specs.Refusals.{with_kinds}
+use Rattle.plan_dsl.specs.Refusals.{then_ok, with_kinds}
 use Rattle.plan_dsl.specs.Expansion.{expansions, predicate_expansion}
-use Rattle.plan_dsl.specs.Resolving.{resolved}
-use Rattle.plan_dsl.proofs.ResolvingLemmas.{select_resolved, hstack_resolved, filter_resolved}
+use Rattle.plan_dsl.specs.Resolving.{expanded_each, in_front_of, over_expanded, resolved}
+use Rattle.plan_expand.specs.Refusals.{IsUnexpanded}
+use Rattle.plan_dsl.proofs.ResolvingLemmas.{filter_resolved}
+use Rattle.plan_dsl.proofs.RuleLemmas.{distinct_names, first_refused, hstack_repeated_name, select_repeated_name}
+use Rattle.plan_dsl.specs.PlanKernels.{gives_nothing}
 use Rattle.plan_arena.specs.declared.aexpr.AExpr.{AExpr}
 use Rattle.plan_arena.specs.declared.expr_ir.ExprIR.{ExprIR}
 use Rattle.plan_arena.specs.declared.ir.IR.{IR}
@@ -26,17 +29,15 @@ use Rattle.plan_arena.proofs.ItemLemmas.{plan_added, plan_stays, plan_tree_kept,
 use Rattle.plan_arena.proofs.RunLemmas.{runs_soundly}
 use Rattle.plan_bounds.specs.LoweredPlans.{IsWidePlan}
 use Rattle.plan_lower.specs.Nodes.{KeepsExpressions}
-use Rattle.plan_lower.specs.Outputs.{Lowered, lowered_named, lowered_column, over, lowered_select, lowered_hstack, HasExpandedOutputs}
+use Rattle.plan_lower.specs.Outputs.{Lowered, lowered_named, lowered_column, HasExpandedOutputs}
+use Rattle.plan_lower.specs.Works.{IsWorkAt, IsWorkRefusal, against_a_rule, lowered_names, unresolved, without_memory}
+use Rattle.plan_lower.proofs.WorkLemmas.{columns_are, names_are, only_types, outputs_against}
 use Rattle.plan_lower.specs.Predicates.{HasExpandedPredicate, IsUnfiltered, not_expanded as unreduced, no_predicate, lowered_filter}
 use Rattle.plan_lower.specs.Projection.{IsUnprojected, not_expanded, not_projected}
 use Rattle.plan_lower.specs.Lowering.{IsBuilt, IsPlanRefusal, IsSelectAt, IsHStackAt, IsFilterAt, StandsFor, IsEmptyTableAt, AreFilters, IsTyped, HasLoweredTop, HasBoundedTop, IsSplit, IsSound, GivesSameFrame}
 use Rattle.plan_properties.specs.Splitting.{split_predicate}
 use Rattle.plan_lower.proofs.FilterLemmas.{filters_denoted}
-use Rattle.plan_lower.proofs.BuiltLemmas.{unexpanded_then, unexpanded_kind, unresolved_refused, scan_built, scan_refused_at, select_built, select_refused_at, hstack_built, hstack_refused_at, filter_built, filter_refused_at, refused_in_input}
-
--- the empty table
-pub empty_denoted : (items : List AExpr) (plans : List IR) (n : ℕ) → IsEmptyTableAt plans n → Denotes (HoldsPlan items plans) n empty_table
-empty_denoted items plans n h = ([], record { flat = scan_op None []; item = h; denotes = record { same_recorded = refl; kind = refl } }, tt)
+use Rattle.plan_lower.proofs.BuiltLemmas.{unexpanded_then, unexpanded_kind, unresolved_refused, scan_built, scan_refused_at, filter_built, filter_refused_at, refused_in_input}
 
 as_many : (items : List AExpr) (ns : List (Named ℕ)) (outputs : List Lowered) → DenoteNamed items ns (map lowered_named outputs) → length ns ≡ length outputs
 as_many items [] [] d = refl
@@ -44,12 +45,14 @@ as_many items (n ∷ ns) (o ∷ os) d = let rest = as_many items ns os d.2 in om
 as_many items [] (o ∷ os) d = absurd d
 as_many items (n ∷ ns) [] d = absurd d
 
--- what stands below a select
-over_denoted : (items : List AExpr) (plans : List IR) (n input : ℕ) (outputs : List Lowered) (t : Plan) → (length outputs ≡ 0 → IsEmptyTableAt plans n) → (0 < length outputs → n ≡ input) → Denotes (HoldsPlan items plans) input t → Denotes (HoldsPlan items plans) n (over outputs t)
-over_denoted items plans n input [] t nothing something d = empty_denoted items plans n (nothing refl)
-over_denoted items plans n input (o ∷ os) t nothing something d =
-    let positive : 0 < length (o ∷ os) = omega arith in
-    subst (λ k. Denotes (HoldsPlan items plans) k t) (sym (something positive)) d
+-- a select gives nothing where it has no outputs
+no_outputs : (outputs : List Lowered) → gives_nothing SelectWork (lowered_names outputs ∷ []) ≡ true → length outputs ≡ 0
+no_outputs [] e = refl
+no_outputs (o ∷ os) e = absurd cc
+
+some_outputs : (outputs : List Lowered) → gives_nothing SelectWork (lowered_names outputs ∷ []) ≡ false → 0 < length outputs
+some_outputs [] e = absurd cc
+some_outputs (o ∷ os) e = omega arith
 
 -- a select that was added over its input
 pub select_at : (registry : Registry) (schema : Columns) (items : List AExpr) (mid new : List IR) (item : IR) (n input below : ℕ) (sources : List Source) (nodes : List (Named ℕ)) (own : Columns) → HasExpandedOutputs registry schema items sources nodes own → (length nodes ≡ 0 → IsEmptyTableAt mid below) → (0 < length nodes → below ≡ input) → new ≡ mid ++ item ∷ [] → n ≡ length mid → plan_layer item ≡ layer (select_op nodes (Some own)) (below ∷ []) → IsSelectAt registry schema items new n input sources own
@@ -75,6 +78,11 @@ pub filter_at : (registry : Registry) (schema : Columns) (items : List AExpr) (n
 filter_at registry schema items new n input source predicate parts h splits filters =
     record { predicate = predicate; has = h; parts = map named_node parts; denote = splits (lowered_named h.lowered.output) h.lowered.denotes; filters = filters }
 
+-- what one list of expressions can't be expanded to, its node can't be resolved to
+only_unexpanded : (registry : Registry) (work : Work) (schema : Columns) (sources : List Source) (error : PlanError) → IsUnexpanded (expansions [] schema sources) error → IsUnexpanded (then_ok (expanded_each schema (sources ∷ [])) (over_expanded (Ok work))) error
+only_unexpanded registry work schema sources error r =
+    unexpanded_then (expanded_each schema (sources ∷ [])) (over_expanded (Ok work)) error (unexpanded_then (expansions [] schema sources) (λ trees. in_front_of trees (Ok [])) error r)
+
 module _ (registry : Registry) where
   -- a scan that was added
   pub scan_stands : (items : List AExpr) (plans : List IR) (n : ℕ) (table : Option ℕ) (schema own : Columns) (plan : Plan) → slice_get (map plan_layer plans) n ≡ Some (layer (scan_op table schema) []) → own ≡ schema → HasDistinctNames schema → all_known schema ≡ true → plan ≡ node (scan_op table schema) no_more → StandsFor registry items plans n own plan
@@ -91,53 +99,64 @@ module _ (registry : Registry) where
   scan_refused table schema plan error h same =
       subst (λ p. IsPlanRefusal registry p error) (sym same) (scan_refused_at registry table schema error h)
 
-  -- a select over what its input becomes
-  pub select_stands : (items items' : List AExpr) (plans new : List IR) (input n : ℕ) (schema own : Columns) (sources : List Source) (source : SourcePlan) (plan : Plan) → KeepsExpressions items items' → Grows plans new → StandsFor registry items plans input schema (resolved registry source) → IsSelectAt registry schema items' new n input sources own → plan ≡ resolved registry (source_select sources source) → StandsFor registry items' new n own plan
-  select_stands items items' plans new input n schema own sources source plan keeps grows s is same =
-      let has = is.has.lowered in
-      let outputs = has.outputs in
-      let many = as_many items' is.nodes outputs has.denotes in
-      let kept = plan_tree_kept items items' plans new keeps grows input s.lowered s.denotes in
-      let child = over_denoted items' new is.below input outputs s.lowered (λ e. is.nothing (omega (arith, many, e))) (λ p. is.something (omega (arith, many, p))) kept in
-      let lowered = lowered_select outputs s.lowered in
-      let there = same ∙ select_resolved registry sources is.has.trees source schema s.built.source_schema is.has.expanded in
-      let built = select_built registry (resolved registry source) s.lowered schema is.has.trees outputs s.built has.selects in
-      record {
-        lowered = lowered;
-        denotes = (is.below ∷ [], record { flat = select_op is.nodes (Some own); item = is.item; denotes = record { same_recorded = ap Some has.columns_are; kind = (map lowered_named outputs, refl, has.denotes) } }, (child, tt));
-        built = subst (λ c. IsBuilt registry plan lowered c) (sym has.columns_are) (subst (λ p. IsBuilt registry p lowered (map lowered_column outputs)) (sym there) built);
-      }
+  module _ (items : List AExpr) (plans : List IR) (n input : ℕ) (schema own : Columns) (sources : List Source) where
+    -- a select is a node over one input, and so is an hstack
+    pub select_work : IsSelectAt registry schema items plans n input sources own → IsWorkAt registry schema items plans n input SelectWork (sources ∷ []) own
+    select_work is =
+        let has = is.has.lowered in
+        let outputs = has.outputs in
+        let many = as_many items is.nodes outputs has.denotes in
+        record {
+          trees = is.has.trees ∷ [];
+          expanded = ap (λ r. then_ok r (λ trees. in_front_of trees (Ok []))) is.has.expanded;
+          own = SelectWork;
+          resolved = refl;
+          outputs = outputs ∷ [];
+          trees_are = ap (λ trees. trees ∷ []) has.selects.trees_are;
+          unbroken = record { each = (has.selects.each, tt); types = only_types outputs; kinds = distinct_names Duplicate (lowered_names outputs) (map lowered_column outputs) (names_are outputs) has.selects.distinct };
+          whole = tt;
+          columns_are = has.columns_are ∙ sym (columns_are outputs);
+          nodes = is.nodes ∷ [];
+          denote = (has.denotes, tt);
+          below = is.below;
+          nothing = λ e. let none = no_outputs outputs e in is.nothing (omega (arith, many, none));
+          something = λ e. let some = some_outputs outputs e in is.something (omega (arith, many, some));
+          item = is.item;
+        }
 
-  -- a refusal of one of a select's expressions
-  pub select_refused : (items : List AExpr) (plans : List IR) (input : ℕ) (schema : Columns) (sources : List Source) (source : SourcePlan) (plan : Plan) (error : PlanError) → StandsFor registry items plans input schema (resolved registry source) → IsUnprojected registry schema Duplicate sources error → plan ≡ resolved registry (source_select sources source) → IsPlanRefusal registry plan error
-  select_refused items plans input schema sources source plan error s (not_expanded r) same =
-      unresolved_refused registry (select_op sources None) source schema plan error s.built.source_schema (unexpanded_then (expansions [] schema sources) (λ trees. Ok (SelectKind (map named trees))) error r) same
-  select_refused items plans input schema sources source plan error s (not_projected trees is r) same =
-      let there = same ∙ select_resolved registry sources trees source schema s.built.source_schema is in
-      subst (λ p. IsPlanRefusal registry p error) (sym there) (select_refused_at registry (resolved registry source) schema trees error s.built.source_schema r)
+    pub hstack_work : IsHStackAt registry schema items plans n input sources own → IsWorkAt registry schema items plans n input HStackWork (sources ∷ []) own
+    hstack_work is =
+        let has = is.has.lowered in
+        let outputs = has.outputs in
+        record {
+          trees = is.has.trees ∷ [];
+          expanded = ap (λ r. then_ok r (λ trees. in_front_of trees (Ok []))) is.has.expanded;
+          own = HStackWork;
+          resolved = refl;
+          outputs = outputs ∷ [];
+          trees_are = ap (λ trees. trees ∷ []) has.selects.trees_are;
+          unbroken = record { each = (has.selects.each, tt); types = only_types outputs; kinds = distinct_names ComputeError (lowered_names outputs) (map lowered_column outputs) (names_are outputs) has.selects.distinct };
+          whole = tt;
+          columns_are = is.whole ∙ ap (with_columns schema) (has.columns_are ∙ sym (columns_are outputs));
+          nodes = is.nodes ∷ [];
+          denote = (has.denotes, tt);
+          below = input;
+          nothing = λ e. absurd cc;
+          something = λ e. refl;
+          item = is.item;
+        }
 
-  -- an hstack over what its input becomes
-  pub hstack_stands : (items items' : List AExpr) (plans new : List IR) (input n : ℕ) (schema own : Columns) (sources : List Source) (source : SourcePlan) (plan : Plan) → KeepsExpressions items items' → Grows plans new → StandsFor registry items plans input schema (resolved registry source) → IsHStackAt registry schema items' new n input sources own → plan ≡ resolved registry (source_hstack sources source) → StandsFor registry items' new n own plan
-  hstack_stands items items' plans new input n schema own sources source plan keeps grows s is same =
-      let has = is.has.lowered in
-      let outputs = has.outputs in
-      let lowered = lowered_hstack schema outputs s.lowered in
-      let columns = is.whole ∙ ap (with_columns schema) has.columns_are in
-      let there = same ∙ hstack_resolved registry sources is.has.trees source schema s.built.source_schema is.has.expanded in
-      let built = hstack_built registry (resolved registry source) s.lowered schema is.has.trees outputs s.built has.selects in
-      record {
-        lowered = lowered;
-        denotes = (input ∷ [], record { flat = hstack_op is.nodes (Some own); item = is.item; denotes = record { same_recorded = ap Some columns; kind = (map lowered_named outputs, refl, has.denotes) } }, (plan_tree_kept items items' plans new keeps grows input s.lowered s.denotes, tt));
-        built = subst (λ c. IsBuilt registry plan lowered c) (sym columns) (subst (λ p. IsBuilt registry p lowered (with_columns schema (map lowered_column outputs))) (sym there) built);
-      }
+  module _ (schema : Columns) (sources : List Source) (error : PlanError) where
+    -- and so are their refusals
+    pub select_refusal : IsUnprojected registry schema Duplicate sources error → IsWorkRefusal registry schema SelectWork (sources ∷ []) error
+    select_refusal (not_expanded r) = unresolved (only_unexpanded registry SelectWork schema sources error r)
+    select_refusal (not_projected trees is r) =
+        ⊎_elim (λ e. without_memory e) (λ a. against_a_rule (trees ∷ []) SelectWork a.0 (ap (λ r. then_ok r (λ trees. in_front_of trees (Ok []))) is) refl a.1 a.2) (outputs_against registry schema SelectWork Duplicate (λ os. os ∷ []) (λ front o back kind. first_refused registry schema SelectWork None front o back [] kind) (select_repeated_name registry schema None) trees error r)
 
-  -- a refusal of one of an hstack's expressions
-  pub hstack_refused : (items : List AExpr) (plans : List IR) (input : ℕ) (schema : Columns) (sources : List Source) (source : SourcePlan) (plan : Plan) (error : PlanError) → StandsFor registry items plans input schema (resolved registry source) → IsUnprojected registry schema ComputeError sources error → plan ≡ resolved registry (source_hstack sources source) → IsPlanRefusal registry plan error
-  hstack_refused items plans input schema sources source plan error s (not_expanded r) same =
-      unresolved_refused registry (hstack_op sources None) source schema plan error s.built.source_schema (unexpanded_then (expansions [] schema sources) (λ trees. Ok (HStackKind (map named trees))) error r) same
-  hstack_refused items plans input schema sources source plan error s (not_projected trees is r) same =
-      let there = same ∙ hstack_resolved registry sources trees source schema s.built.source_schema is in
-      subst (λ p. IsPlanRefusal registry p error) (sym there) (hstack_refused_at registry (resolved registry source) schema trees error s.built.source_schema r)
+    pub hstack_refusal : IsUnprojected registry schema ComputeError sources error → IsWorkRefusal registry schema HStackWork (sources ∷ []) error
+    hstack_refusal (not_expanded r) = unresolved (only_unexpanded registry HStackWork schema sources error r)
+    hstack_refusal (not_projected trees is r) =
+        ⊎_elim (λ e. without_memory e) (λ a. against_a_rule (trees ∷ []) HStackWork a.0 (ap (λ r. then_ok r (λ trees. in_front_of trees (Ok []))) is) refl a.1 a.2) (outputs_against registry schema HStackWork ComputeError (λ os. os ∷ []) (λ front o back kind. first_refused registry schema HStackWork None front o back [] kind) (hstack_repeated_name registry schema None) trees error r)
 
   -- a filter over what its input becomes
   pub filter_stands : (items items' : List AExpr) (plans new : List IR) (input n : ℕ) (schema own : Columns) (predicate : Source) (source : SourcePlan) (plan : Plan) → KeepsExpressions items items' → Grows plans new → StandsFor registry items plans input schema (resolved registry source) → IsFilterAt registry schema items' new n input predicate → own ≡ schema → plan ≡ resolved registry (source_filter predicate source) → StandsFor registry items' new n own plan
@@ -156,7 +175,7 @@ module _ (registry : Registry) where
   -- a refusal of a filter's predicate
   pub filter_refused : (items : List AExpr) (plans : List IR) (input : ℕ) (schema : Columns) (predicate : Source) (source : SourcePlan) (plan : Plan) (error : PlanError) → StandsFor registry items plans input schema (resolved registry source) → IsUnfiltered registry schema predicate error → plan ≡ resolved registry (source_filter predicate source) → IsPlanRefusal registry plan error
   filter_refused items plans input schema predicate source plan error s (unreduced r) same =
-      unresolved_refused registry (filter_op predicate) source schema plan error s.built.source_schema (unexpanded_then (with_kinds (predicate_expansion schema predicate)) (λ tree. Ok (FilterKind (named tree))) error (unexpanded_kind (predicate_expansion schema predicate) error r)) same
+      unresolved_refused registry (filter_op predicate) source schema plan error s.built.source_schema (unexpanded_then (then_ok (with_kinds (predicate_expansion schema predicate)) (λ tree. Ok ((tree ∷ []) ∷ []))) (over_expanded (Ok FilterWork)) error (unexpanded_then (with_kinds (predicate_expansion schema predicate)) (λ tree. Ok ((tree ∷ []) ∷ [])) error (unexpanded_kind (predicate_expansion schema predicate) error r))) same
   filter_refused items plans input schema predicate source plan error s (no_predicate tree is r) same =
       let there = same ∙ filter_resolved registry predicate tree source schema s.built.source_schema is in
       subst (λ p. IsPlanRefusal registry p error) (sym there) (filter_refused_at registry (resolved registry source) schema tree error s.built.source_schema r)

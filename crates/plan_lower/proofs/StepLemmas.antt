@@ -1,9 +1,9 @@
 -- A plan's node over its only input, whatever it does.
-use Rattle.std.proofs.Common.{◌≡◌, ℕ, List, ◌++◌, reverse, None, refl, ◌∙◌}
+use Rattle.std.proofs.Common.{◌≡◌, ℕ, List, [], ◌∷◌, ◌++◌, reverse, None, refl, ◌∙◌}
 use Rattle.plan_types.specs.Schemas.{Columns}
 use Rattle.plan_types.specs.declared.error.PlanError.{PlanError}
 use Rattle.plan_dsl.specs.Expressions.{tree_of, trees_of}
-use Rattle.plan_dsl.specs.Plans.{PlanOp, PlanOption, OrderOption, ProjectionOption, SourcePlan, filter_op, select_op, hstack_op, group_by_op}
+use Rattle.plan_dsl.specs.Plans.{GroupByWork, HStackWork, SelectWork, PlanOp, PlanOption, OrderOption, ProjectionOption, SourcePlan, filter_op, select_op, hstack_op, group_by_op}
 use Rattle.plan_dsl.specs.Registry.{Registry}
 use Rattle.plan_dsl.specs.Resolving.{resolved}
 use Rattle.plan_dsl.specs.Sources.{Source}
@@ -18,8 +18,9 @@ use Rattle.plan_lower.specs.Lowering.{IsPlanRefusal, StandsFor}
 use Rattle.plan_lower.specs.Nodes.{KeepsExpressions}
 use Rattle.plan_lower.specs.Steps.{IsStepAt, IsStepRefusal, options_above, options_behind, source_step}
 use Rattle.plan_lower.proofs.DropLemmas.{function_below, function_refused, function_stands}
-use Rattle.plan_lower.proofs.GroupLemmas.{groups_refused, groups_stand}
-use Rattle.plan_lower.proofs.PlanLemmas.{filter_refused, filter_stands, hstack_refused, hstack_stands, select_refused, select_stands}
+use Rattle.plan_lower.proofs.GroupLemmas.{groups_refusal, groups_work}
+use Rattle.plan_lower.proofs.PlanLemmas.{filter_refused, filter_stands, hstack_refusal, hstack_work, select_refusal, select_work}
+use Rattle.plan_lower.proofs.WorkLemmas.{work_refused, work_stands}
 
 -- the options of its items, behind those of the items below
 pub step_options : (step : Step) (below old mid new : List PlanOption) → mid ≡ old ++ reverse below → new ≡ options_behind step mid → new ≡ old ++ reverse (options_above step below)
@@ -35,26 +36,26 @@ module _ (registry : Registry) where
   step_stands (Filter predicate) items items' plans new input n schema own source keeps grows s is =
       filter_stands registry items items' plans new input n schema own (tree_of predicate) source _ keeps grows s is.0 is.1 refl
   step_stands (Select exprs options) items items' plans new input n schema own source keeps grows s is =
-      select_stands registry items items' plans new input n schema own (trees_of exprs) source _ keeps grows s is refl
+      work_stands registry SelectWork (trees_of exprs ∷ []) items items' plans new input n schema own source keeps grows s (select_work registry items' new n input schema own (trees_of exprs) is)
   step_stands (HStack exprs options) items items' plans new input n schema own source keeps grows s is =
-      hstack_stands registry items items' plans new input n schema own (trees_of exprs) source _ keeps grows s is refl
+      work_stands registry HStackWork (trees_of exprs ∷ []) items items' plans new input n schema own source keeps grows s (hstack_work registry items' new n input schema own (trees_of exprs) is)
   step_stands (GroupBy keys aggs maintain_order) items items' plans new input n schema own source keeps grows s is =
-      groups_stand registry items items' plans new input n schema own (trees_of keys) (trees_of aggs) source _ keeps grows s is refl
+      work_stands registry GroupByWork (trees_of keys ∷ trees_of aggs ∷ []) items items' plans new input n schema own source keeps grows s (groups_work registry items' new n input schema own (trees_of keys) (trees_of aggs) is)
   step_stands (Function function) items items' plans new input n schema own source keeps grows s is =
-      function_stands registry items items' plans new input n schema own function source _ keeps grows s is refl
+      function_stands registry items items' plans new input n schema own function source keeps grows s is
 
   -- a refusal of a step over what its input becomes
   pub step_refused : (step : Step) (items : List AExpr) (plans : List IR) (input : ℕ) (schema : Columns) (source : SourcePlan) (error : PlanError) → StandsFor registry items plans input schema (resolved registry source) → IsStepRefusal registry schema step error → IsPlanRefusal registry (resolved registry (source_step step source)) error
   step_refused (Filter predicate) items plans input schema source error s refused =
       filter_refused registry items plans input schema (tree_of predicate) source _ error s refused refl
   step_refused (Select exprs options) items plans input schema source error s refused =
-      select_refused registry items plans input schema (trees_of exprs) source _ error s refused refl
+      work_refused registry SelectWork (trees_of exprs ∷ []) schema source error s.built.source_schema (select_refusal registry schema (trees_of exprs) error refused)
   step_refused (HStack exprs options) items plans input schema source error s refused =
-      hstack_refused registry items plans input schema (trees_of exprs) source _ error s refused refl
+      work_refused registry HStackWork (trees_of exprs ∷ []) schema source error s.built.source_schema (hstack_refusal registry schema (trees_of exprs) error refused)
   step_refused (GroupBy keys aggs maintain_order) items plans input schema source error s refused =
-      groups_refused registry items plans input schema (trees_of keys) (trees_of aggs) source _ error s refused refl
+      work_refused registry GroupByWork (trees_of keys ∷ trees_of aggs ∷ []) schema source error s.built.source_schema (groups_refusal registry schema error (trees_of keys) (trees_of aggs) refused)
   step_refused (Function function) items plans input schema source error s refused =
-      function_refused registry items plans input schema function source _ error s refused refl
+      function_refused registry schema function source error s.built.source_schema refused
 
   -- a refusal of its input, as any node over it sees that
   pub step_below : (step : Step) (source : SourcePlan) (error : PlanError) → ((op : PlanOp Source) → IsPlanRefusal registry (resolved registry (node op (more source no_more))) error) → IsPlanRefusal registry (resolved registry (source_step step source)) error

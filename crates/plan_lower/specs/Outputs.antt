@@ -3,6 +3,7 @@ use Rattle.std.specs.Prelude.{◌≡◌, ℕ, List, [], ◌∷◌, map, Some, Ok
 use Rattle.std.specs.List.{AllByRecursion}
 use Rattle.plan_types.specs.Types.{Ty}
 use Rattle.plan_types.specs.Schemas.{Name, Columns, HasDistinctNames}
+use Rattle.plan_dsl.specs.InlinedCasts.{written_out}
 use Rattle.plan_dsl.specs.Registry.{Registry}
 use Rattle.plan_dsl.specs.Trees.{node, no_more, more}
 use Rattle.plan_dsl.specs.Ops.{Expression}
@@ -19,7 +20,6 @@ use Rattle.plan_arena.specs.declared.aexpr.AExpr.{AExpr}
 use Rattle.plan_arena.specs.Items.{DenoteNamed}
 use Rattle.plan_arena.specs.Runs.{NamesOperands}
 use Rattle.plan_bounds.specs.LoweredPlans.{has_wide_horizontals}
-use Rattle.plan_coerce.specs.InlinedCasts.{written_out}
 
 -- an expression of the query, its type, and what stands for it in the lowered plan
 pub record Lowered : Type 0 where

@@ -6,3 +6,4 @@ mod groups;
 mod horizontals;
 mod outputs;
 mod plans;
+mod works;

@@ -7,6 +7,7 @@ use Rattle.std.specs.List.{AllByRecursion}
 use Rattle.std.specs.Option.{option_map}
 use Rattle.plan_dsl.specs.declared.function_expr.FunctionExpr.TheVariants.{IsIn}
 use Rattle.plan_dsl.specs.Ops.{Op, AggOp, Expression}
+use Rattle.plan_dsl.specs.Properties.{all_hold, all_trees, asks_literal, has_column, has_single_functions, holds_by, is_elementwise, is_literal, literals}
 use Rattle.plan_dsl.specs.Trees.{Trees, node, no_more, more, top_op}
 use Rattle.plan_arena.specs.declared.aexpr.AExpr.{AExpr}
 use Rattle.plan_arena.specs.declared.aexpr.AExpr.TheVariants.{Agg, Len}
@@ -21,7 +22,7 @@ use Rattle.plan_infer.proofs.TableLemmas.{layer_held}
 use Rattle.plan_arena.specs.declared.arena.Node.{Node}
 use Rattle.plan_arena.specs.declared.expr_ir.ExprIR.{ExprIR}
 use Rattle.plan_properties.specs.Asking.{AllDenote, SaysOfNode, is_literal_item, literals_at}
-use Rattle.plan_properties.specs.Properties.{all_hold, all_trees, asks_literal, can_pre_agg, has_column, has_single_functions, holds_by, is_elementwise, is_literal, literals, merges}
+use Rattle.plan_properties.specs.Properties.{can_pre_agg, merges}
 
 -- ---- operands
 

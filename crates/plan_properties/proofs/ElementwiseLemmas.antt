@@ -14,6 +14,7 @@ use Rattle.plan_types.specs.declared.error.ErrorKind.{ErrorKind}
 use Rattle.plan_dsl.specs.Meaning.{applied, meaning, meaning_all, node_meaning, ruled_meaning, taken_to}
 use Rattle.plan_dsl.specs.Ops.{Op, ColumnOp, Expression}
 use Rattle.plan_dsl.specs.OperatorTypes.{Taken}
+use Rattle.plan_dsl.specs.Properties.{all_hold, is_elementwise, is_own_elementwise, is_own_harmless, literals, never}
 use Rattle.plan_dsl.specs.Registry.{Registry}
 use Rattle.plan_dsl.specs.Trees.{Trees, node, no_more, more}
 use Rattle.plan_dsl.specs.Typing.{Typed, Ruling, rule, ruled_as, some_many, types_of, typing, typing_all}
@@ -25,7 +26,6 @@ use Rattle.plan_properties.specs.Laws.{ElementwiseGoesByRows, GoesByRows, HasVal
 use Rattle.plan_properties.proofs.HarmlessLemmas.{has_values, operand_cast, values_cast}
 use Rattle.plan_properties.proofs.RowOpLemmas.{GoesByRow, LiteralsAreOne, literals_are_one, row_goes}
 use Rattle.plan_properties.proofs.SideLemmas.{AllHave, AreLong, ColumnSplits, ColumnsSplit, all_first, all_rest, all_whole, by_row_joins, done_again, front, front_joined, front_next, given_agrees, given_has, one_row_has}
-use Rattle.plan_properties.specs.Properties.{all_hold, is_elementwise, is_own_elementwise, is_own_harmless, literals, never}
 
 length_is : (found : Result Taken ErrorKind) (many : Bool) (ruling : Ruling) → ruled_as found many ≡ Ok ruling → ruling.own.many ≡ many
 length_is found many ruling h = ruled_is (λ r. r.own.many ≡ many) found many ruling h (λ taken e. refl)

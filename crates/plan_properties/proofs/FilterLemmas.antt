@@ -6,10 +6,11 @@ use Rattle.plan_types.specs.Outcomes.{Outcome, Done, Fault, Stuck, Meets, then_d
 use Rattle.plan_types.specs.Schemas.{Columns}
 use Rattle.plan_dsl.specs.Aliases.{IsCore}
 use Rattle.plan_dsl.specs.Ops.{Expression}
-use Rattle.plan_dsl.specs.PlanKernels.{filtered, filtered_on, kept_rows}
+use Rattle.plan_dsl.specs.PlanKernels.{Evaluation, filtered_on, kept_rows}
 use Rattle.plan_dsl.specs.PlanMeaning.{FitsPlan}
 use Rattle.plan_dsl.specs.PlanRules.{plan_rule, schema_of}
 use Rattle.plan_dsl.specs.Plans.{Named, Plan, expressions_of, filter_op}
+use Rattle.plan_dsl.specs.Properties.{permits_pushdown}
 use Rattle.plan_dsl.specs.Registry.{Registry}
 use Rattle.plan_dsl.specs.Strictness.{IsStrict}
 use Rattle.plan_dsl.specs.Trees.{node, no_more, more}
@@ -19,7 +20,6 @@ use Rattle.plan_dsl.proofs.LiteralLemmas.{strict_settled}
 use Rattle.plan_dsl.proofs.RuleLemmas.{filter_schema}
 use Rattle.plan_dsl.proofs.RunLemmas.{strict_is_meaning}
 use Rattle.plan_arena.specs.Runs.{AreStrict, HasOwnName, IsAccepted, IsNamedPlan, IsStrictPlan, NamesOperands, by_running, plan_run}
-use Rattle.plan_properties.specs.Properties.{permits_pushdown}
 use Rattle.plan_properties.specs.Splitting.{IsCondition, IsSplitPlan, SplittingKeepsPlans, SplittingKeepsSchemas, conjuncts, filters_over, is_whole, kept_by, kept_by_all, own_named, split_predicate}
 use Rattle.plan_properties.proofs.SplittingLemmas.{KeepsSchema, kept_all_schema, parts_are_conditions, parts_are_core, parts_are_whole, parts_name_operands, splitting_keeps_frames, whole_where_stays}
 
@@ -85,6 +85,10 @@ module _ (registry : Registry) (schema : Columns) where
       }
 
   -- ---- how they run
+
+  -- what a filter gives
+  abbrev filtered : Evaluation → Named Expression → Outcome Frame → Outcome Frame
+  filtered evaluate predicate input = then_do input (λ frame. filtered_on (evaluate frame predicate) frame)
 
   abbrev filtered_all : List (Named Expression) → Outcome Frame → Outcome Frame
   filtered_all [] input = input

@@ -17,6 +17,7 @@ use Rattle.plan_dsl.specs.declared.function_expr.FunctionExpr.TheVariants.{AllHo
 use Rattle.plan_dsl.specs.Kernels.{Meaning, cast_meaning, cast_values, given, kernel, value_before}
 use Rattle.plan_dsl.specs.Meaning.{applied, meaning, meaning_all, node_meaning, ruled_meaning, taken_to}
 use Rattle.plan_dsl.specs.Ops.{Op, ColumnOp, LiteralOp, BinaryOp, CastOp, LenOp, SliceOp, ExplodeOp, GatherOp, FilterOp, SortOp, SortByOp, WindowOp, AliasOp, AggOp, TernaryOp, FunctionOp, Expression}
+use Rattle.plan_dsl.specs.Properties.{all_hold, holds_by, is_own_elementwise, is_own_harmless, literals, never}
 use Rattle.plan_dsl.specs.Registry.{Registry}
 use Rattle.plan_dsl.specs.Rows.{by_row}
 use Rattle.plan_dsl.specs.Trees.{Trees, node, no_more, more}
@@ -27,7 +28,6 @@ use Rattle.plan_dsl.proofs.TypingLemmas.{by_children, by_no_children, ruled_is, 
 use Rattle.plan_properties.proofs.RowOpLemmas.{GoesByRow, LiteralsAreOne, literals_are_one, row_goes}
 use Rattle.plan_properties.proofs.SideLemmas.{AllHave, by_row_has, given_has, one_in_front}
 use Rattle.plan_properties.specs.Laws.{HasValuesOr, PushdownsHaveNoFault, row_count}
-use Rattle.plan_properties.specs.Properties.{all_hold, holds_by, is_own_elementwise, is_own_harmless, literals, never}
 
 -- where each node passes a test that elementwise ones alone pass, and those that may have a fault of their own only where
 -- there may be one

@@ -3,6 +3,7 @@ use Rattle.std.proofs.Common.{◌≡◌, ℕ, true, false, cond, List, [], ◌�
 use Rattle.std.proofs.lemmas.List.{append_assoc, append-nil, map-append}
 use Rattle.plan_dsl.specs.Ops.{Expression}
 use Rattle.plan_dsl.specs.Plans.{Named}
+use Rattle.plan_dsl.specs.Properties.{permits_pushdown}
 use Rattle.plan_dsl.specs.Trees.{node, no_more, more}
 use Rattle.plan_arena.specs.Denotation.{Denotes, DenoteAll}
 use Rattle.plan_arena.specs.Items.{DenoteNamed, HoldsExpression, expression_layer, named_node}
@@ -11,7 +12,6 @@ use Rattle.plan_arena.specs.declared.aexpr.AExpr.{AExpr}
 use Rattle.plan_arena.specs.declared.expr_ir.ExprIR.{ExprIR}
 use Rattle.plan_arena.proofs.ItemLemmas.{held_top, two_children}
 use Rattle.plan_infer.proofs.TableLemmas.{layer_held}
-use Rattle.plan_properties.specs.Properties.{permits_pushdown}
 use Rattle.plan_properties.specs.Splitting.{AddsParts, all_conjuncts, conjuncts, is_conjunction, own_named, split_predicate}
 
 pub on_ok : {A E : Type 0} {P Q : Type 0} (result : Result A E) → OnOk result P → (P → Q) → OnOk result Q

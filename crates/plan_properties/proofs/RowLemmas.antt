@@ -10,11 +10,11 @@ use Rattle.plan_types.specs.declared.dtype.CastOptions.TheVariants.{NonStrict}
 use Rattle.plan_dsl.specs.Kernels.{Meaning, cast_meaning, cast_values, given, kernel}
 use Rattle.plan_dsl.specs.Meaning.{applied, meaning, meaning_all, node_meaning, ruled_meaning, taken_to}
 use Rattle.plan_dsl.specs.Ops.{Op, ColumnOp, LiteralOp, BinaryOp, CastOp, LenOp, SliceOp, ExplodeOp, GatherOp, FilterOp, SortOp, SortByOp, WindowOp, AliasOp, AggOp, TernaryOp, FunctionOp, Expression}
+use Rattle.plan_dsl.specs.Properties.{all_hold, is_elementwise, is_own_elementwise, literals, never}
 use Rattle.plan_dsl.specs.Registry.{Registry}
 use Rattle.plan_dsl.specs.Trees.{Trees, node, no_more, more}
 use Rattle.plan_dsl.specs.Typing.{Ruling, rule, types_of, typing_all}
 use Rattle.plan_properties.specs.Laws.{RowsDecide}
-use Rattle.plan_properties.specs.Properties.{all_hold, is_elementwise, is_own_elementwise, literals, never}
 
 module _ (registry : Registry) (schema : Columns) (rows others : List Row) (row other : ℕ) (same : row_at (record { schema = schema; rows = rows }) row ≡ row_at (record { schema = schema; rows = others }) other) where
   abbrev one : Frame

@@ -28,6 +28,7 @@ use Rattle.plan_types.specs.declared.dtype.CastOptions.TheVariants.{Strict, NonS
 use Rattle.plan_types.proofs.CastLemmas.{cast_never_fails}
 use Rattle.plan_dsl.specs.Ops.{Op, LiteralOp, BinaryOp, CastOp, AliasOp, TernaryOp, FunctionOp, Expression}
 use Rattle.plan_dsl.specs.Picks.{items_in}
+use Rattle.plan_dsl.specs.Properties.{is_literal, is_no_column, is_own_elementwise, is_own_harmless, literals}
 use Rattle.plan_dsl.specs.Registry.{Registry}
 use Rattle.plan_dsl.specs.Rows.{by_row, each_row, in_front, stretched}
 use Rattle.plan_dsl.specs.Signatures.{asks, function_signature, horizontal_signature, least_horizontal, signature, takes}
@@ -37,7 +38,6 @@ use Rattle.plan_dsl.specs.Typing.{Typed, Ruling, aliased, cast_taken, literal_ta
 use Rattle.plan_dsl.proofs.SignatureLemmas.{AllBecome}
 use Rattle.plan_dsl.proofs.TypingLemmas.{by_children, ok_same, ruled_is, typed_parts}
 use Rattle.plan_properties.specs.Laws.{row_count}
-use Rattle.plan_properties.specs.Properties.{is_literal, is_no_column, is_own_elementwise, is_own_harmless, literals}
 use Rattle.plan_properties.proofs.SideLemmas.{AreLong, are_for, by_row_is, common, made_of_rows, stretched_length, stretched_self}
 
 -- ---- what is given of each row

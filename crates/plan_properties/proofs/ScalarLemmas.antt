@@ -20,6 +20,7 @@ use Rattle.plan_dsl.specs.Kernels.{Meaning, cast_column, cast_meaning, cast_valu
 use Rattle.plan_dsl.specs.Laws.{AreOf}
 use Rattle.plan_dsl.specs.Meaning.{applied, meaning, meaning_all, node_meaning, ruled_meaning, taken_to}
 use Rattle.plan_dsl.specs.Ops.{Op, ColumnOp, LiteralOp, BinaryOp, CastOp, LenOp, SliceOp, ExplodeOp, GatherOp, FilterOp, SortOp, SortByOp, WindowOp, AliasOp, AggOp, TernaryOp, FunctionOp, Expression}
+use Rattle.plan_dsl.specs.Properties.{all_hold, gives_one, is_own_elementwise, is_scalar, keeps_one, over_any}
 use Rattle.plan_dsl.specs.Registry.{Registry}
 use Rattle.plan_dsl.specs.Rows.{by_row}
 use Rattle.plan_dsl.specs.Trees.{Trees, node, no_more, more}
@@ -27,7 +28,6 @@ use Rattle.plan_dsl.specs.Typing.{Typed, Ruling, rule, types_of, typing_all}
 use Rattle.plan_dsl.proofs.ColumnLemmas.{one_value}
 use Rattle.plan_dsl.proofs.FitLemmas.{meaning_has_type}
 use Rattle.plan_properties.specs.Laws.{HasValuesOr, ScalarsHaveOneValue}
-use Rattle.plan_properties.specs.Properties.{all_hold, gives_one, is_own_elementwise, is_scalar, keeps_one, over_any}
 use Rattle.plan_properties.proofs.HarmlessLemmas.{values_cast}
 use Rattle.plan_properties.proofs.SideLemmas.{AreLong, one_row_has}
 

@@ -16,12 +16,12 @@ use Rattle.plan_dsl.specs.declared.operator.Operator.{Operator}
 use Rattle.plan_dsl.specs.Ops.{Op, BinaryOp, Expression}
 use Rattle.plan_dsl.specs.Picks.{is_true, where_true}
 use Rattle.plan_dsl.specs.PlanKernels.{kept_rows}
+use Rattle.plan_dsl.specs.Properties.{all_hold, is_elementwise, is_own_elementwise, is_own_harmless, literals, never, permits_pushdown}
 use Rattle.plan_dsl.specs.Registry.{Registry}
 use Rattle.plan_dsl.specs.Trees.{Trees, node, no_more, more}
 use Rattle.plan_dsl.specs.Typing.{Typed, typing}
 use Rattle.plan_arena.specs.Runs.{AllNameOperands, NamesOperands}
 use Rattle.plan_properties.specs.Laws.{GoesByRows, HasValues, by_rows, joined, row_count}
-use Rattle.plan_properties.specs.Properties.{all_hold, is_elementwise, is_own_elementwise, is_own_harmless, literals, never, permits_pushdown}
 use Rattle.plan_properties.specs.Splitting.{IsCondition, PartsAreConditions, SplittingKeepsFrames, all_conjuncts, conjuncts, is_conjunction, is_whole, kept_by, kept_by_all}
 use Rattle.plan_properties.proofs.ConjunctLemmas.{BothConditions, both_conditions, conjunction_is_true}
 use Rattle.plan_properties.proofs.ElementwiseLemmas.{elementwise_goes_by_rows}

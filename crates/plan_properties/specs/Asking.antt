@@ -2,6 +2,7 @@
 use Rattle.std.specs.Prelude.{◌≡◌, ℕ, Bool, false, List, map, Option, Some, None, slice_get}
 use Rattle.std.specs.List.{AllByRecursion}
 use Rattle.plan_dsl.specs.Ops.{Op, Expression}
+use Rattle.plan_dsl.specs.Properties.{all_trees, gives_one, holds_by, is_literal, is_no_column, is_own_elementwise, is_own_harmless, is_own_single, keeps_one, never, over_any}
 use Rattle.plan_dsl.specs.Trees.{Trees}
 use Rattle.plan_arena.specs.declared.aexpr.AExpr.{AExpr}
 use Rattle.plan_arena.specs.Denotation.{Denotes, DenoteAll, DenotesTree}
@@ -10,7 +11,6 @@ use Rattle.plan_arena.specs.Layers.{Layer, op_of}
 use Rattle.plan_infer.specs.ItemTrees.{LayerDenotes}
 use Rattle.plan_properties.specs.declared.asked.Asked.{Asked}
 use Rattle.plan_properties.specs.declared.asked.Asked.TheVariants.{Elementwise, Harmless, Scalar, Single, Columnless}
-use Rattle.plan_properties.specs.Properties.{all_trees, gives_one, holds_by, is_literal, is_no_column, is_own_elementwise, is_own_harmless, is_own_single, keeps_one, never, over_any}
 
 -- the ops that settle what is asked, and those that hand it on
 abbrev pub settles : Asked → Op → Bool

@@ -4,12 +4,12 @@ use Rattle.plan_types.specs.Frames.{Frame, IsFrame, Row, row_at}
 use Rattle.plan_types.specs.Schemas.{Columns}
 use Rattle.plan_types.specs.Outcomes.{Outcome, Done, Fault, Stuck, Meets, then_do}
 use Rattle.plan_types.specs.Values.{Val}
+use Rattle.plan_dsl.specs.Properties.{is_elementwise, is_scalar, permits_pushdown}
 use Rattle.plan_dsl.specs.Registry.{Registry}
 use Rattle.plan_dsl.specs.Ops.{Expression}
 use Rattle.plan_dsl.specs.Typing.{Typed, typing}
 use Rattle.plan_dsl.specs.Kernels.{Meaning}
 use Rattle.plan_dsl.specs.Meaning.{meaning}
-use Rattle.plan_properties.specs.Properties.{is_elementwise, is_scalar, permits_pushdown}
 
 -- a column that a scalar expression gives has one value, whatever the rows
 abbrev pub ScalarsHaveOneValue : Type 0

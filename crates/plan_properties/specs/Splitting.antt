@@ -13,7 +13,8 @@ use Rattle.plan_dsl.specs.Ops.{Op, BinaryOp, Expression}
 use Rattle.plan_dsl.specs.PlanKernels.{kept_rows}
 use Rattle.plan_dsl.specs.Names.{label_of}
 use Rattle.plan_dsl.specs.PlanRules.{schema_of}
-use Rattle.plan_dsl.specs.Plans.{FilterKind, Named, filter_op, Plan, PlanKind, PlanOp}
+use Rattle.plan_dsl.specs.Plans.{FilterWork, OverKind, Named, filter_op, Plan, PlanKind, PlanOp}
+use Rattle.plan_dsl.specs.Properties.{permits_pushdown}
 use Rattle.plan_dsl.specs.Registry.{Registry}
 use Rattle.plan_dsl.specs.Strictness.{IsStrict}
 use Rattle.plan_dsl.specs.Trees.{Trees, node, no_more, more}
@@ -23,7 +24,6 @@ use Rattle.plan_arena.specs.Items.{DenoteNamed, named_node}
 use Rattle.plan_arena.specs.Runs.{plan_run}
 use Rattle.plan_arena.specs.declared.aexpr.AExpr.{AExpr}
 use Rattle.plan_arena.specs.declared.expr_ir.ExprIR.{ExprIR}
-use Rattle.plan_properties.specs.Properties.{permits_pushdown}
 
 -- whether a node asks that both of two are true
 abbrev pub is_conjunction : Op → Bool
@@ -53,13 +53,17 @@ abbrev pub is_whole : Expression → Bool
 is_whole (node op operands) = not (is_conjunction op && permits_pushdown (node op operands))
 
 abbrev pub IsWhole : PlanKind (Named Expression) → Type 0
-IsWhole (FilterKind predicate) = IsTrue (is_whole predicate.expression)
+IsWhole (OverKind FilterWork ((predicate ∷ []) ∷ [])) = IsTrue (is_whole predicate.expression)
 IsWhole kind = Unit {0}
+
+-- so it is over these inputs: no input is excepted
+abbrev pub IsWholeOver : PlanKind (Named Expression) → Trees (PlanOp (Named Expression)) → Type 0
+IsWholeOver kind inputs = IsWhole kind
 
 abbrev mutual
   -- no filter of a plan can be split
   pub IsSplitPlan : Plan → Type 0
-  IsSplitPlan (node op inputs) = IsWhole op.kind × AllSplitPlans inputs
+  IsSplitPlan (node op inputs) = IsWholeOver op.kind inputs × AllSplitPlans inputs
 
   pub AllSplitPlans : Trees (PlanOp (Named Expression)) → Type 0
   AllSplitPlans no_more = Unit {0}

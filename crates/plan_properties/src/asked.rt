@@ -1,12 +1,12 @@
 //! What is asked of expressions, node by node.
 ghost use Rattle.std.specs.Prelude.{◌≡◌, List, slice_get, true, false};
 ghost use Rattle.plan_dsl.specs.Ops.{Op};
+ghost use Rattle.plan_dsl.specs.Properties.{asks_literal, gives_one, is_no_column, is_own_elementwise, is_own_harmless, is_own_single, keeps_one};
 ghost use Rattle.plan_arena.specs.declared.aexpr.AExpr.{AExpr};
 ghost use Rattle.plan_arena.specs.Denotation.{DenotesTree};
 ghost use Rattle.plan_arena.specs.Items.{HoldsExpression, expression_layer};
 ghost use Rattle.plan_arena.specs.Layers.{inputs_of, op_of};
 ghost use Rattle.plan_properties.specs.Asking.{AllDenote, SaysOfAll, SaysOfItem, SaysOfNode, hands_on, holds_of, is_literal_item, literals_at, settles};
-ghost use Rattle.plan_properties.specs.Properties.{asks_literal, gives_one, is_no_column, is_own_elementwise, is_own_harmless, is_own_single, keeps_one};
 
 use plan_arena::aexpr::AExpr;
 use plan_arena::arena::{Arena, Node};

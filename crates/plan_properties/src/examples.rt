@@ -6,6 +6,7 @@ ghost use Rattle.plan_types.specs.declared.dtype.CastOptions.TheVariants.{Strict
 ghost use Rattle.plan_dsl.specs.declared.aggregate.GroupByMethod.TheVariants.{Min, NanMin, Max, NanMax, First, Last, NUnique, Implode, Groups, Sum, Count};
 ghost use Rattle.std.specs.List.{AllByRecursion};
 ghost use Rattle.plan_types.specs.Types.{Truth};
+ghost use Rattle.plan_dsl.specs.Properties.{all_hold, all_trees, asks_literal, has_column, is_elementwise, is_no_column, is_own_elementwise, is_scalar, literals, never, over_any, permits_pushdown};
 ghost use Rattle.plan_dsl.specs.Samples.{Gives, GivesAll, GivesOfTwo, a, b, c, alias, binary, call, cast_as, count, equal, explode, gather, gather_one, int8, keep_where, no, number, one, over, rising, rising_by, slice, sort_as, sum, ternary, text, yes};
 ghost use Rattle.plan_dsl.specs.Ops.{AggOp, BinaryOp, ColumnOp, LenOp};
 ghost use Rattle.plan_dsl.specs.Plans.{empty_table};
@@ -19,7 +20,7 @@ ghost use Rattle.plan_arena.specs.declared.aexpr.AExpr.TheVariants.{Literal};
 ghost use Rattle.plan_infer.specs.Samples.{a_items};
 ghost use Rattle.plan_properties.specs.Asking.{AllDenote, SaysOfAll, SaysOfItem, SaysOfNode, literals_at};
 ghost use Rattle.plan_properties.specs.Laws.{GoesByRows, HasValues, HasValuesOr, by_rows, joined, row_count};
-ghost use Rattle.plan_properties.specs.Properties.{all_hold, all_trees, asks_literal, can_pre_agg, has_column, is_elementwise, is_no_column, is_own_elementwise, is_scalar, literals, never, over_any, permits_pushdown};
+ghost use Rattle.plan_properties.specs.Properties.{can_pre_agg};
 ghost use Rattle.plan_properties.specs.Samples.{above_beside_one, aggregate, both, filtered_by, frame_of, is_above, is_one, no_number, recorded_a, under_alias, words_and_numbers};
 ghost use Rattle.plan_properties.specs.Splitting.{AddsParts, IsCondition, IsSplitPlan, conjuncts, is_conjunction, is_whole, kept_by, kept_by_all, own_named, split_predicate};
 

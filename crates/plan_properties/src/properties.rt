@@ -2,12 +2,13 @@
 ghost use Rattle.std.specs.Prelude.{◌≡◌, ◌&&◌, ◌++◌, ℕ, if◌then◌else◌, reverse, IfOk, IfErr, OnErr};
 ghost use Rattle.plan_types.specs.Errors.{no_memory};
 ghost use Rattle.plan_dsl.specs.declared.aggregate.GroupByMethod.{GroupByMethod};
+ghost use Rattle.plan_dsl.specs.Properties.{has_column, has_single_functions, is_elementwise, is_own_elementwise, is_scalar, permits_pushdown};
 ghost use Rattle.plan_arena.specs.Aggregates.{input_at, method_at};
 ghost use Rattle.plan_arena.specs.Denotation.{DenotesTree};
 ghost use Rattle.plan_arena.specs.Items.{HoldsExpression, expression_layer, numbers, numbers_named, passed};
 ghost use Rattle.plan_arena.specs.Layers.{inputs_of, op_of};
 ghost use Rattle.plan_properties.specs.Asking.{AllDenote, SaysOfAll, SaysOfItem, SaysOfNode, literals_at};
-ghost use Rattle.plan_properties.specs.Properties.{can_pre_agg, has_column, has_single_functions, is_elementwise, is_own_elementwise, is_scalar, merges, permits_pushdown};
+ghost use Rattle.plan_properties.specs.Properties.{can_pre_agg, merges};
 
 use crate::asked::{Asked, holds_of, holds_of_all, holds_of_item, is_own_elementwise};
 use plan_arena::aexpr::{AExpr, Nodes};

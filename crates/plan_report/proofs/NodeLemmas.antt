@@ -1,24 +1,24 @@
 -- What the nodes of the two arenas lead to.
-use Rattle.std.proofs.Common.{◌≡◌, ℕ, ◌<◌, List, [], ◌∷◌, ◌++◌, map, Some, slice_get, refl, sym, ap, ◌∙◌, subst, append_assoc}
+use Rattle.std.proofs.Common.{◌≡◌, ℕ, ◌<◌, List, [], ◌∷◌, ◌++◌, map, Some, None, slice_get, refl, sym, ap, ◌∙◌, subst, append_assoc}
 use Rattle.std.specs.List.{AllByRecursion}
 use Rattle.std.proofs.lemmas.List.{append-nil}
 use Rattle.std.proofs.lemmas.Option.{same_Some}
 use Rattle.plan_types.specs.Schemas.{Columns}
 use Rattle.plan_dsl.specs.Trees.{Trees, node, no_more, more}
 use Rattle.plan_dsl.specs.Ops.{Op, Expression}
-use Rattle.plan_dsl.specs.Plans.{Named, PlanKind, ScanKind, SelectKind, HStackKind, GroupByKind, FilterKind, SimpleProjectionKind, DropKind, RefusedKind, PlanOp, Plan, filter_op}
+use Rattle.plan_dsl.specs.Plans.{Named, Work, FilterWork, PlanKind, ScanKind, OverKind, RefusedKind, PlanOp, Plan, filter_op}
 use Rattle.plan_dsl.specs.PlanRules.{schema_of}
 use Rattle.plan_dsl.specs.Registry.{Registry}
 use Rattle.plan_arena.specs.Denotation.{Denotes, DenoteAll, DenotesTree, depth_at}
 use Rattle.plan_arena.specs.Layers.{Layer, inputs_of, layer, op_of, shape_of}
-use Rattle.plan_arena.specs.Items.{expression_layer, plan_layer, kind_text, node_name, HoldsExpression, DenotesKind, HoldsPlan, DenotesItem}
+use Rattle.plan_arena.specs.Items.{expression_layer, plan_layer, kind_text, node_name, HoldsExpression, DenoteLists, DenotesKind, HoldsPlan, DenotesItem}
 use Rattle.plan_arena.specs.Runs.{IsAccepted, AllAccepted}
 use Rattle.plan_arena.specs.declared.aexpr.AExpr.{AExpr}
 use Rattle.plan_arena.specs.declared.ir.IR.{IR}
 use Rattle.plan_arena.specs.declared.ir.IR.TheVariants.{Filter, GroupBy, HStack, Select, SimpleProjection}
 use Rattle.plan_arena.proofs.DenotationLemmas.{some_same, inputs_denote, denotes_one}
 use Rattle.plan_arena.proofs.ItemLemmas.{layer_op, layer_inputs, expression_laws, plan_laws, plan_got, expression_got, item_denotes}
-use Rattle.plan_arena.proofs.UncheckedLemmas.{filter_item}
+use Rattle.plan_arena.proofs.UncheckedLemmas.{kept_item}
 use Rattle.plan_report.specs.Casts.{DenoteOutputs}
 use Rattle.plan_report.specs.Report.{line_text, shown, node_line, plan_lines, casts_line, report_text}
 use Rattle.plan_dsl.specs.Counts.{cast_count}
@@ -69,31 +69,25 @@ module _ (expressions : List AExpr) (plans : List IR) (n : ℕ) (item : IR) (got
   pub node_kind : DenotesTree (HoldsPlan expressions plans) n → DenotesSome expressions flat.kind
   node_kind d = kind_of_node d.tree d.denotes
 
--- the expressions of a select, of an hstack, of a group-by, and of a filter, denote expressions
-pub select_outputs : (expressions : List AExpr) (nodes : List (Named ℕ)) → DenotesSome expressions (SelectKind nodes) → DenoteOutputs expressions nodes
-select_outputs expressions nodes d = record { outputs = d.denotes.0; denote = d.denotes.2 }
+-- the first list of expressions of a node, and the second, denote expressions
+first_denotes : (expressions : List AExpr) (nodes : List (Named ℕ)) (others : List (List (Named ℕ))) (lists : List (List (Named Expression))) → DenoteLists expressions (nodes ∷ others) lists → DenoteOutputs expressions nodes
+first_denotes expressions nodes others (outputs ∷ lists) d = record { outputs = outputs; denote = d.0 }
+first_denotes expressions nodes others [] d = absurd d
 
-pub hstack_outputs : (expressions : List AExpr) (nodes : List (Named ℕ)) → DenotesSome expressions (HStackKind nodes) → DenoteOutputs expressions nodes
-hstack_outputs expressions nodes d = record { outputs = d.denotes.0; denote = d.denotes.2 }
+second_denotes : (expressions : List AExpr) (first nodes : List (Named ℕ)) (others : List (List (Named ℕ))) (lists : List (List (Named Expression))) → DenoteLists expressions (first ∷ nodes ∷ others) lists → DenoteOutputs expressions nodes
+second_denotes expressions first nodes others (outputs ∷ lists) d = first_denotes expressions nodes others lists d.1
+second_denotes expressions first nodes others [] d = absurd d
 
-pub key_outputs : (expressions : List AExpr) (keys aggs : List (Named ℕ)) → DenotesSome expressions (GroupByKind keys aggs) → DenoteOutputs expressions keys
-key_outputs expressions keys aggs d = record { outputs = d.denotes.0; denote = d.denotes.3 }
+pub first_outputs : (expressions : List AExpr) (work : Work) (nodes : List (Named ℕ)) (others : List (List (Named ℕ))) → DenotesSome expressions (OverKind work (nodes ∷ others)) → DenoteOutputs expressions nodes
+first_outputs expressions work nodes others d = first_denotes expressions nodes others d.denotes.0 d.denotes.2
 
-pub aggregate_outputs : (expressions : List AExpr) (keys aggs : List (Named ℕ)) → DenotesSome expressions (GroupByKind keys aggs) → DenoteOutputs expressions aggs
-aggregate_outputs expressions keys aggs d = record { outputs = d.denotes.1; denote = d.denotes.4 }
-
-pub filter_outputs : (expressions : List AExpr) (n : Named ℕ) → DenotesSome expressions (FilterKind n) → DenoteOutputs expressions (n ∷ [])
-filter_outputs expressions n d = record { outputs = d.denotes.0 ∷ []; denote = d.denotes.2 }
+pub second_outputs : (expressions : List AExpr) (work : Work) (first nodes : List (Named ℕ)) (others : List (List (Named ℕ))) → DenotesSome expressions (OverKind work (first ∷ nodes ∷ others)) → DenoteOutputs expressions nodes
+second_outputs expressions work first nodes others d = second_denotes expressions first nodes others d.denotes.0 d.denotes.2
 
 -- a kind over nodes is called as the one over expressions
 same_text : (expressions : List AExpr) (flat : PlanKind (Named ℕ)) (kind : PlanKind (Named Expression)) → DenotesKind expressions flat kind → kind_text flat ≡ kind_text kind
 same_text expressions (ScanKind table schema) kind d = sym (ap kind_text d)
-same_text expressions (SelectKind nodes) kind d = sym (ap kind_text d.1)
-same_text expressions (HStackKind nodes) kind d = sym (ap kind_text d.1)
-same_text expressions (GroupByKind keys aggs) kind d = sym (ap kind_text d.2)
-same_text expressions (FilterKind n) kind d = sym (ap kind_text d.1)
-same_text expressions (SimpleProjectionKind columns) kind d = sym (ap kind_text d)
-same_text expressions (DropKind selectors strict) kind d = absurd d
+same_text expressions (OverKind work nodes) kind d = sym (ap kind_text d.1)
 same_text expressions (RefusedKind kinds) kind d = absurd d
 
 -- an item's name is its op's
@@ -148,7 +142,7 @@ module _ (expressions : List AExpr) (plans : List IR) (n : ℕ) (item : IR) (got
     -- the lines of a filter, whose child has its schema
     pub filter_lines : (predicate : Named ℕ) (m : ℕ) → plan_layer item ≡ layer (filter_op predicate) (m ∷ []) → (lined text deeper : List ℕ) → lined ≡ before ++ line_text path (node_name item) cols → deeper ≡ path ++ 0 ∷ [] → ((u : Plan) → Denotes (HoldsPlan expressions plans) m u → IsAccepted registry u → schema_of registry u ≡ Some cols → text ≡ lined ++ plan_lines registry deeper u) → (t : Plan) → Denotes (HoldsPlan expressions plans) n t → IsAccepted registry t → schema_of registry t ≡ Some cols → text ≡ before ++ plan_lines registry path t
     filter_lines predicate m is lined text deeper line step below t d accepted schema =
-        let child = filter_item registry expressions plans item predicate m is t (item_denotes expressions plans n item got t d) accepted in
+        let child = kept_item registry expressions plans item FilterWork refl ((predicate ∷ []) ∷ []) None m is t (item_denotes expressions plans n item got t d) accepted in
         let laws = plan_laws expressions plans in
         one_lines (filter_op predicate) m is lined text deeper line step t d (λ u e only. let same = denotes_one _ (HoldsPlan expressions plans) laws m u child.0 e child.1 in below u e (child_accepted t u accepted only) (ap (schema_of registry) same ∙ sym child.3 ∙ schema)) schema
 

@@ -14,7 +14,7 @@ use Rattle.plan_arena.specs.declared.expr_ir.ExprIR.{ExprIR}
 use Rattle.plan_arena.specs.declared.ir.IR.{IR}
 use Rattle.plan_arena.specs.declared.ir.IR.TheVariants.{DataFrameScan, Filter, GroupBy, HStack, Select, SimpleProjection, Invalid}
 use Rattle.plan_arena.proofs.DenotationLemmas.{some_same}
-use Rattle.plan_arena.proofs.ItemLemmas.{layer_inputs, layer_op, plan_got}
+use Rattle.plan_arena.proofs.ItemLemmas.{filter_denoted, layer_inputs, layer_op, plan_got}
 use Rattle.planner.specs.Planning.{filtered_scan, scan}
 
 -- an op is its kind and what it records
@@ -62,12 +62,13 @@ module _ (expressions : List AExpr) (plans : List IR) where
   filter_by n input predicate got (node op ts) d =
       let flat : PlanOp (Named ℕ) = filter_op (named_node predicate) in
       let is = does n (Filter input predicate) flat (input.0 ∷ []) got refl op d.0 d.1 in
+      let kind = filter_denoted expressions (named_node predicate) op.kind is.kind in
       let one = one_below input.0 ts (over n (Filter input predicate) flat (input.0 ∷ []) got refl op d.0 d.1 ts d.2) in
       record {
-        named = is.kind.0;
+        named = kind.0;
         below = one.0;
-        is = ap (λ o. node o ts) (op_is op (FilterKind is.kind.0) _ is.kind.1 is.same_recorded) ∙ ap (node (filter_op is.kind.0)) one.1;
-        denote = is.kind.2;
+        is = ap (λ o. node o ts) (op_is op (FilterKind kind.0) _ kind.1 is.same_recorded) ∙ ap (node (filter_op kind.0)) one.1;
+        denote = kind.2;
         under = one.2;
       }
 
@@ -91,19 +92,19 @@ module _ (expressions : List AExpr) (plans : List IR) where
   no_filter : (item : IR) (p : Named Expression) → ((input : Node) (predicate : ExprIR) → item ≢ Filter input predicate) → DenotesKind expressions (op_of (plan_layer item)).kind (FilterKind p) → ⊥
   no_filter (Filter input predicate) p other d = other input predicate refl
   no_filter (DataFrameScan table schema) p other d = cc
-  no_filter (GroupBy input keys aggs schema order) p other d = let e = d.2 in cc
+  no_filter (GroupBy input keys aggs schema order) p other d = let e = d.1 in cc
   no_filter (HStack exprs input schema options) p other d = let e = d.1 in cc
   no_filter (Select expr input schema options) p other d = let e = d.1 in cc
-  no_filter (SimpleProjection input schema) p other d = cc
+  no_filter (SimpleProjection input schema) p other d = let e = d.1 in cc
   no_filter Invalid p other d = d
 
   no_scan : (item : IR) (table : Option ℕ) (own : Columns) → ((table : Option ℕ) (schema : Schema) → item ≢ DataFrameScan table schema) → DenotesKind expressions (op_of (plan_layer item)).kind (ScanKind table own) → ⊥
   no_scan (DataFrameScan table schema) t own other d = other table schema refl
   no_scan (Filter input predicate) t own other d = let e = d.1 in cc
-  no_scan (GroupBy input keys aggs schema order) t own other d = let e = d.2 in cc
+  no_scan (GroupBy input keys aggs schema order) t own other d = let e = d.1 in cc
   no_scan (HStack exprs input schema options) t own other d = let e = d.1 in cc
   no_scan (Select expr input schema options) t own other d = let e = d.1 in cc
-  no_scan (SimpleProjection input schema) t own other d = cc
+  no_scan (SimpleProjection input schema) t own other d = let e = d.1 in cc
   no_scan Invalid t own other d = d
 
   -- the kind that an item is, as its node denotes it

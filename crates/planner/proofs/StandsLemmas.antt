@@ -13,10 +13,10 @@ use Rattle.plan_types.specs.declared.error.ErrorKind.TheVariants.{InvalidOperati
 use Rattle.plan_types.specs.declared.error.PlanError.{PlanError}
 use Rattle.plan_dsl.specs.Aliases.{IsCore}
 use Rattle.plan_dsl.specs.Ops.{Expression}
-use Rattle.plan_dsl.specs.PlanKernels.{Evaluation, filtered, kept_rows, scanned, table_frame}
+use Rattle.plan_dsl.specs.PlanKernels.{Evaluation, kept_rows, over_frame, scanned, table_frame}
 use Rattle.plan_dsl.specs.PlanMeaning.{FitsPlan, HasTable}
 use Rattle.plan_dsl.specs.PlanRules.{broken_kinds, plan_rule, schema_by, schema_of}
-use Rattle.plan_dsl.specs.Plans.{FilterKind, Named, Plan, filter_op}
+use Rattle.plan_dsl.specs.Plans.{FilterKind, FilterWork, Named, Plan, filter_op}
 use Rattle.plan_dsl.specs.Registry.{Registry}
 use Rattle.plan_dsl.specs.Strictness.{IsStrict}
 use Rattle.plan_dsl.specs.Typing.{Typed, typing}
@@ -58,7 +58,7 @@ scan_fits tables (Some n) schema meets =
     (elim (slice_get tables n) as (λ o. Meets (IsFrameOf schema) (table_frame o) → HasTable schema o) [ None ↦ λ h. absurd h | Some frame ↦ λ h. h ] meets, tt)
 
 -- a filter by a predicate that gives the same on the rows of frames of the schema
-filtered_same : (e : Evaluation) (x y : Named Expression) (schema : Columns) (input : Outcome Frame) → ((frame : Frame) → IsFrameOf schema frame → (e frame x).gives (row_numbers frame) ≡ (e frame y).gives (row_numbers frame)) → Meets (IsFrameOf schema) input → filtered e x input ≡ filtered e y input
+filtered_same : (e : Evaluation) (x y : Named Expression) (schema : Columns) (input : Outcome Frame) → ((frame : Frame) → IsFrameOf schema frame → (e frame x).gives (row_numbers frame) ≡ (e frame y).gives (row_numbers frame)) → Meets (IsFrameOf schema) input → over_frame e FilterWork ((x ∷ []) ∷ []) input ≡ over_frame e FilterWork ((y ∷ []) ∷ []) input
 filtered_same e x y schema (Done frame) same is = ap (λ o. then_do o (kept_rows frame)) (same frame is)
 filtered_same e x y schema Fault same is = refl
 filtered_same e x y schema Stuck same is = refl

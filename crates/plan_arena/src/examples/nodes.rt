@@ -17,7 +17,7 @@ ghost use Rattle.plan_dsl.specs.declared.window.WindowType.TheVariants.{GroupsTo
 ghost use Rattle.plan_dsl.specs.Trees.{node, no_more, more};
 ghost use Rattle.plan_dsl.specs.Names.{FromField, FromNothing, alias_label, column_label, literal_label};
 ghost use Rattle.plan_dsl.specs.Ops.{ColumnOp, LiteralOp, BinaryOp, CastOp, LenOp, SliceOp, AliasOp, ExplodeOp, GatherOp, FilterOp, SortOp, SortByOp, WindowOp, Expression};
-ghost use Rattle.plan_dsl.specs.Plans.{FilterKind, GroupByKind, HStackKind, Named, OrderOption, ProjectionOption, RefusedKind, ScanKind, SelectKind, named, scan_op, select_op, hstack_op, group_by_op, simple_projection_op, filter_op, DropKind, SimpleProjectionKind};
+ghost use Rattle.plan_dsl.specs.Plans.{FilterKind, GroupByKind, HStackKind, Named, OrderOption, ProjectionOption, RefusedKind, ScanKind, SelectKind, named, scan_op, select_op, hstack_op, group_by_op, simple_projection_op, filter_op, GroupByWork, HStackWork, OverKind, PassWork, RechunkPass, SelectWork, SinkPass, SliceWork, SortWork, DropKind, SimpleProjectionKind};
 ghost use Rattle.plan_dsl.specs.Samples.{Gives, GivesOfTwo, int8, int32, a, alias, b, cast_as, column, count, keep, literal, over, over_by, slice, sort_by, sum, typed_literal, way, schema_ab};
 ghost use Rattle.plan_arena.specs.declared.aexpr.AExpr.{AExpr};
 ghost use Rattle.plan_arena.specs.declared.aexpr.AExpr.TheVariants.{Column, Literal, BinaryExpr, Cast, Len, Slice, Alias, Explode, Gather, Filter as FilterBy, Sort, SortBy, Window};
@@ -31,7 +31,7 @@ ghost use Rattle.plan_arena.specs.declared.ir.IR.TheVariants.{DataFrameScan, Fil
 ghost use Rattle.plan_arena.specs.declared.plan.IRPlan.{IRPlan};
 ghost use Rattle.plan_arena.specs.Layers.{layer, op_of, inputs_of, shape_of};
 ghost use Rattle.plan_arena.specs.Denotation.{Denotes, DenotesTree, depth_at, greatest, inputs_at};
-ghost use Rattle.plan_arena.specs.Items.{expression_layer, kind_text, output_label, named_node, node_name, ordered, ordering, passed, plan_layer, DenoteNamed, DenotesItem, DenotesKind, DenotesPlan, Grows, HasInputs, HoldsExpression, HoldsFrom, HoldsPlan, Rewired};
+ghost use Rattle.plan_arena.specs.Items.{expression_layer, kind_text, output_label, named_node, node_name, ordered, ordering, passed, plan_layer, work_text, DenoteNamed, DenotesItem, DenotesKind, DenotesPlan, Grows, HasInputs, HoldsExpression, HoldsFrom, HoldsPlan, Rewired};
 ghost use Rattle.plan_arena.specs.NamedNodes.{same_named};
 ghost use Rattle.plan_arena.specs.Options.{option_of, options_of};
 ghost use Rattle.plan_arena.specs.Samples.{a_at, circle, literal_at, named_at, node_at, strict_sum, sum_items, wide_a};
@@ -200,9 +200,11 @@ pub fn kinds_of_plans()
     ensures other_node { ¬ (DenotesKind sum_items (FilterKind (named_at "a" 1)) (FilterKind (named a))) }
     ensures simple_projection { DenotesKind [] (SimpleProjectionKind schema_ab) (SimpleProjectionKind schema_ab) }
     ensures other_columns { ¬ (DenotesKind [] (SimpleProjectionKind schema_ab) (SimpleProjectionKind [])) }
-    ensures drop { ¬ (DenotesKind [] (DropKind [] true) (DropKind [] true)) }
+    ensures other_work { ¬ (DenotesKind [] (OverKind SelectWork []) (OverKind HStackWork [])) }
+    ensures other_lists { ¬ (DenotesKind sum_items (OverKind GroupByWork ((named_at "b" 1 ∷ []) ∷ [])) (GroupByKind (named b ∷ []) [])) }
     ensures refused { ¬ (DenotesKind sum_items (RefusedKind []) (RefusedKind [])) }
     ensures texts { Gives (kind_text {E = Named Expression}) ((SimpleProjectionKind schema_ab, codes "simple_projection") ∷ (DropKind [] true, codes "invalid") ∷ []) }
+    ensures words { Gives work_text ((SliceWork (pos 0) 1, codes "slice") ∷ (SortWork [] [], codes "sort") ∷ (PassWork SinkPass, codes "sink (memory)") ∷ (PassWork RechunkPass, codes "map_function") ∷ []) }
 {}
 
 /// The inputs of a plan's item denote plans, and lead into no circle.

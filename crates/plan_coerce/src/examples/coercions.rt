@@ -9,14 +9,15 @@ ghost use Rattle.plan_dsl.specs.declared.literal.LiteralValue.TheVariants.{Int, 
 ghost use Rattle.plan_dsl.specs.declared.operator.Operator.TheVariants.{Eq, LogicalAnd, Plus};
 ghost use Rattle.plan_arena.specs.declared.aexpr.AExpr.TheVariants.{Column, Literal};
 ghost use Rattle.plan_infer.specs.Typed.{DenotesTyped, DenotesKnown};
-ghost use Rattle.plan_coerce.specs.Coercion.{KeepsBelow, coerced};
-ghost use Rattle.plan_coerce.specs.InlinedCasts.{written_out};
+ghost use Rattle.plan_coerce.specs.Coercion.{KeepsBelow};
 ghost use Rattle.plan_coerce.specs.Kinds.{IsOfAKind, IsStep};
 ghost use Rattle.plan_coerce.specs.Optimizer.{AreWrittenOut, DenotesLike, StaysLike};
 ghost use Rattle.plan_coerce.specs.Rules.{HasSameWritten};
 ghost use Rattle.plan_coerce.specs.Reaching.{IsReached, Near};
 ghost use Rattle.plan_infer.specs.Samples.{int8, int32, int64, one_column, columns_of, two_columns, struct_of, a, b, literal, number, five, binary, cast_to, sum, pair, columns_and, sum_items, a_items};
 ghost use Rattle.plan_coerce.specs.Samples.{cast_of, of, strict_items, strict_sum};
+ghost use Rattle.plan_dsl.specs.Coercion.{coerced};
+ghost use Rattle.plan_dsl.specs.InlinedCasts.{written_out};
 ghost use Rattle.plan_dsl.specs.Samples.{text};
 
 /// With every cast written out an operand of another type stands under one, a number without a type has become a

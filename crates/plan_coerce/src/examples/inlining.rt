@@ -5,12 +5,12 @@ ghost use Rattle.plan_types.specs.Types.{NullType, Truth, TextType, DateType, Ti
 ghost use Rattle.plan_types.specs.declared.dtype.CastOptions.TheVariants.{NonStrict, Overflowing, Strict};
 ghost use Rattle.plan_types.specs.declared.dtype.TimeUnit.TheVariants.{Milliseconds, Nanoseconds};
 ghost use Rattle.plan_dsl.specs.declared.operator.Operator.TheVariants.{And, LogicalAnd, LogicalOr};
+ghost use Rattle.plan_dsl.specs.InlinedCasts.{inlined, is_told, literal_cast, stays};
 ghost use Rattle.plan_dsl.specs.Samples.{Gives, GivesAll, all_options, cast_as, int64, moment, negative, null, number as value, span, text, uint8, yes, no};
 ghost use Rattle.plan_dsl.specs.declared.literal.LiteralValue.TheVariants.{Int8};
 ghost use Rattle.plan_types.specs.declared.dtype.DataType.TheVariants as dtype;
 ghost use Rattle.plan_infer.specs.Samples.{int8, int16, int32, a, b, binary, cast_to, columns_and, five, literal, pair, strictly_cast_to};
 ghost use Rattle.plan_coerce.specs.declared.cast_inlining.Told.TheVariants.{Literal, Neither};
-ghost use Rattle.plan_coerce.specs.InlinedCasts.{inlined, is_told, literal_cast, stays};
 ghost use Rattle.plan_coerce.specs.Samples.{CastsTo, cast_of, of, told_as};
 ghost use Rattle.plan_coerce.specs.ToldCasts.{IsToldBy, LeadsTo};
 

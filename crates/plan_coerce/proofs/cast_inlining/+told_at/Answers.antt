@@ -1,11 +1,11 @@
 use Rattle.std.proofs.Common.{◌≡◌, Ok, [], ◌∷◌, sym, ap, ◌∙◌, arith}
 use Rattle.plan_types.specs.Types.{ty}
+use Rattle.plan_dsl.specs.InlinedCasts.{is_cast_op, is_told_top}
 use Rattle.plan_dsl.specs.Ops.{CastOp}
 use Rattle.plan_dsl.specs.Typing.{typing}
 use Rattle.plan_arena.specs.Items.{expression_layer}
 use Rattle.plan_arena.proofs.ItemLemmas.{expression_inputs, got_held, tree_within}
 use Rattle.plan_arena.specs.Layers.{op_of}
-use Rattle.plan_coerce.specs.InlinedCasts.{is_cast_op, is_told_top}
 use Rattle.plan_coerce.specs.ToldCasts.{IsToldBy}
 use Rattle.plan_coerce.proofs.ToldLemmas.{cast_below, other_item, told_cast, told_literal, told_logical, told_none}
 use Rattle.plan_coerce.proofs.cast_inlining.+told_at.Goals as goal

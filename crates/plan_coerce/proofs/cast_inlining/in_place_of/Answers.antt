@@ -1,6 +1,8 @@
 use Rattle.std.proofs.Common.{[], ◌∷◌, set, refl, ap, ◌∙◌, sym, subst}
 use Rattle.std.proofs.lemmas.Bool.{false≢true}
 use Rattle.plan_types.specs.Schemas.{Columns}
+use Rattle.plan_dsl.specs.Coercion.{coerced}
+use Rattle.plan_dsl.specs.InlinedCasts.{is_told, stays, written_out}
 use Rattle.plan_dsl.specs.Ops.{BinaryOp, Expression}
 use Rattle.plan_dsl.specs.Registry.{Registry}
 use Rattle.plan_dsl.specs.Trees.{node}
@@ -11,9 +13,7 @@ use Rattle.plan_arena.specs.Items.{HoldsExpression}
 use Rattle.plan_arena.proofs.ItemLemmas.{expression_written, tree_within, within}
 use Rattle.plan_infer.specs.KeptTypes.{IsRight, typed_of}
 use Rattle.plan_infer.proofs.TableLemmas.{kept_typing, right_start}
-use Rattle.plan_coerce.specs.Coercion.{coerced}
 use Rattle.plan_coerce.specs.CoercionRule.{ForgetsAt, IsCoercion}
-use Rattle.plan_coerce.specs.InlinedCasts.{is_told, stays, written_out}
 use Rattle.plan_coerce.specs.Rules.{IsReplacement, is_strict_node, said, until_settled}
 use Rattle.plan_coerce.specs.ToldCasts.{IsToldBy, LeadsToLogical}
 use Rattle.plan_coerce.proofs.CoercionRuleLemmas.{kept_node}

@@ -1,7 +1,7 @@
 use Rattle.std.proofs.Common.{sym, ap, ◌∙◌}
+use Rattle.plan_dsl.specs.InlinedCasts.{is_cast_op, is_told_top}
 use Rattle.plan_arena.specs.Items.{expression_layer}
 use Rattle.plan_arena.specs.Layers.{op_of}
-use Rattle.plan_coerce.specs.InlinedCasts.{is_cast_op, is_told_top}
 use Rattle.plan_coerce.proofs.ToldLemmas.{other_item}
 use Rattle.plan_coerce.proofs.cast_inlining.may_be_told.Goals as goal
 

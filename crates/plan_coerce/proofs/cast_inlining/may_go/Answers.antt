@@ -1,12 +1,12 @@
 use Rattle.std.proofs.Common.{◌≡◌, Ok, true, [], ◌∷◌, refl, ap}
 use Rattle.plan_types.specs.Types.{ty}
+use Rattle.plan_dsl.specs.Coercion.{coerced}
+use Rattle.plan_dsl.specs.InlinedCasts.{stays}
 use Rattle.plan_dsl.specs.Ops.{CastOp}
 use Rattle.plan_dsl.specs.Trees.{no_more, more}
 use Rattle.plan_dsl.specs.Typing.{typing}
 use Rattle.plan_arena.specs.Items.{expression_layer}
 use Rattle.plan_arena.proofs.ItemLemmas.{expression_inputs, got_held, tree_within}
-use Rattle.plan_coerce.specs.Coercion.{coerced}
-use Rattle.plan_coerce.specs.InlinedCasts.{stays}
 use Rattle.plan_coerce.proofs.ToldLemmas.{neither_stays, no_cast_item, not_cast_stays, told_cast, told_none, untold_stays}
 use Rattle.plan_coerce.proofs.cast_inlining.may_go.Goals as goal
 

@@ -1,6 +1,6 @@
 use Rattle.std.proofs.Common.{sym, ap, ◌∙◌}
+use Rattle.plan_dsl.specs.Properties.{asks_literal}
 use Rattle.plan_properties.specs.Asking.{literals_at}
-use Rattle.plan_properties.specs.Properties.{asks_literal}
 use Rattle.plan_properties.proofs.AskingLemmas.{second_asked}
 use Rattle.plan_properties.proofs.asked.asks_literal.Goals as goal
 

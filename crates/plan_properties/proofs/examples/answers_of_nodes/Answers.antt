@@ -1,5 +1,6 @@
 use Rattle.std.proofs.Common.{◌≡◌, ◌<◌, true, false, [], ◌∷◌, ◌&&◌, map, codes, refl, sym, ap, ◌∙◌, subst, arith}
 use Rattle.plan_dsl.specs.Ops.{Op, ColumnOp, LenOp, Expression}
+use Rattle.plan_dsl.specs.Properties.{all_trees, is_elementwise, is_scalar}
 use Rattle.plan_dsl.specs.Samples.{a}
 use Rattle.plan_dsl.specs.Trees.{Trees, node, no_more, more}
 use Rattle.plan_arena.specs.Denotation.{Denotes, DenoteAll}
@@ -8,7 +9,6 @@ use Rattle.plan_arena.specs.Layers.{layer}
 use Rattle.plan_arena.proofs.ItemLemmas.{held_top, tree_within}
 use Rattle.plan_infer.specs.ItemTrees.{LayerDenotes}
 use Rattle.plan_infer.specs.Samples.{a_items}
-use Rattle.plan_properties.specs.Properties.{all_trees, is_elementwise, is_scalar}
 use Rattle.plan_properties.specs.Samples.{recorded_a}
 use Rattle.plan_properties.specs.Splitting.{own_named}
 use Rattle.plan_properties.proofs.examples.answers_of_nodes.Goals as goal

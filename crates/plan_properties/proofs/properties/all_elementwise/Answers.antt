@@ -1,6 +1,6 @@
 use Rattle.std.proofs.Common.{sym, subst}
+use Rattle.plan_dsl.specs.Properties.{is_elementwise}
 use Rattle.plan_properties.specs.Asking.{AllDenote, SaysOfAll}
-use Rattle.plan_properties.specs.Properties.{is_elementwise}
 use Rattle.plan_properties.proofs.properties.all_elementwise.Goals as goal
 
 pub holds_of_all-requires : goal.holds_of_all-requires

@@ -1,10 +1,10 @@
 use Rattle.std.proofs.Common.{◌≡◌, Some, true, false, [], ◌∷◌, ◌++◌, slice_get, ap, refl, subst, ◌∙◌, arith}
 use Rattle.plan_dsl.specs.Ops.{Expression}
+use Rattle.plan_dsl.specs.Properties.{permits_pushdown}
 use Rattle.plan_arena.specs.Denotation.{Denotes}
 use Rattle.plan_arena.specs.Items.{HoldsExpression, expression_layer, named_node}
 use Rattle.plan_arena.proofs.ItemLemmas.{tree_within}
 use Rattle.plan_properties.specs.Asking.{SaysOfItem}
-use Rattle.plan_properties.specs.Properties.{permits_pushdown}
 use Rattle.plan_properties.specs.Splitting.{AddsParts, conjuncts}
 use Rattle.plan_properties.proofs.AskingLemmas.{of_node, operands_denote}
 use Rattle.plan_properties.proofs.PartLemmas.{is_split, stays_whole}

@@ -1,8 +1,9 @@
 use Rattle.std.proofs.Common.{[], ◌∷◌, ap, arith}
 use Rattle.plan_arena.specs.Items.{named_node, plan_layer}
 use Rattle.plan_arena.proofs.ItemLemmas.{item_inputs, plan_within}
-use Rattle.plan_report.proofs.NodeLemmas.{plan_inputs, node_kind, select_outputs, hstack_outputs, key_outputs, aggregate_outputs, filter_outputs}
-use Rattle.plan_report.proofs.CastLemmas.{only_named, scan_casts, select_casts, hstack_casts, group_casts, projection_casts, filter_casts, plan_counted}
+use Rattle.plan_dsl.specs.Plans.{SelectWork, HStackWork, GroupByWork, FilterWork}
+use Rattle.plan_report.proofs.NodeLemmas.{plan_inputs, node_kind, first_outputs, second_outputs}
+use Rattle.plan_report.proofs.CastLemmas.{only_named, scan_casts, list_casts, group_casts, projection_casts, filter_casts, plan_counted}
 use Rattle.plan_report.proofs.casts.+plan_casts.Goals as goal
 
 pub get-item-requires : goal.get-item-requires
@@ -14,11 +15,11 @@ unreachable-requires t c =
 
 pub outputs_casts-requires : goal.outputs_casts-requires
 outputs_casts-requires t c =
-    select_outputs c.args.plan.now.expr_arena _ (node_kind c.args.plan.now.expr_arena c.args.plan.now.lp_arena c.args.node.0 c.get-item.result.now c.get-item.ensures _ _ (ap plan_layer c.in-Select.is) c.requires)
+    first_outputs c.args.plan.now.expr_arena SelectWork _ [] (node_kind c.args.plan.now.expr_arena c.args.plan.now.lp_arena c.args.node.0 c.get-item.result.now c.get-item.ensures _ _ (ap plan_layer c.in-Select.is) c.requires)
 
 pub expression_casts-requires : goal.expression_casts-requires
 expression_casts-requires t c =
-    let outputs = filter_outputs c.args.plan.now.expr_arena (named_node c.in-Filter.predicate) (node_kind c.args.plan.now.expr_arena c.args.plan.now.lp_arena c.args.node.0 c.get-item.result.now c.get-item.ensures _ _ (ap plan_layer c.in-Filter.is) c.requires) in
+    let outputs = first_outputs c.args.plan.now.expr_arena FilterWork (named_node c.in-Filter.predicate ∷ []) [] (node_kind c.args.plan.now.expr_arena c.args.plan.now.lp_arena c.args.node.0 c.get-item.result.now c.get-item.ensures _ _ (ap plan_layer c.in-Filter.is) c.requires) in
     rw c.node.ensures (only_named c.args.plan.now.expr_arena (named_node c.in-Filter.predicate) outputs.outputs outputs.denote)
 
 pub plan_casts-requires : goal.plan_casts-requires
@@ -43,12 +44,12 @@ returns-in_ok-count-in-Filter t c tree d =
 
 pub returns-in_ok-count-in-Select : goal.returns-in_ok-count-in-Select
 returns-in_ok-count-in-Select t c tree d =
-    let counted = plan_counted c.args.plan.now.expr_arena c.args.plan.now.lp_arena c.args.node.0 c.get-item.result.now c.get-item.ensures _ _ c.in_ok-here-in-Select.here (c.in_ok-below-in-Select.below ∷ []) (ap plan_layer c.in-Select.is) (select_casts c.args.plan.now.expr_arena _ c.in_ok-here-in-Select.here c.in_ok-here-in-Select.ensures) (c.in_ok-below-in-Select.ensures, tt) tree d in
+    let counted = plan_counted c.args.plan.now.expr_arena c.args.plan.now.lp_arena c.args.node.0 c.get-item.result.now c.get-item.ensures _ _ c.in_ok-here-in-Select.here (c.in_ok-below-in-Select.below ∷ []) (ap plan_layer c.in-Select.is) (list_casts c.args.plan.now.expr_arena SelectWork _ c.in_ok-here-in-Select.here c.in_ok-here-in-Select.ensures) (c.in_ok-below-in-Select.ensures, tt) tree d in
     omega (arith, c.in_ok-count-in-Select.ensures)
 
 pub outputs_casts-requires-in-HStack : goal.outputs_casts-requires-in-HStack
 outputs_casts-requires-in-HStack t c =
-    hstack_outputs c.args.plan.now.expr_arena _ (node_kind c.args.plan.now.expr_arena c.args.plan.now.lp_arena c.args.node.0 c.get-item.result.now c.get-item.ensures _ _ (ap plan_layer c.in-HStack.is) c.requires)
+    first_outputs c.args.plan.now.expr_arena HStackWork _ [] (node_kind c.args.plan.now.expr_arena c.args.plan.now.lp_arena c.args.node.0 c.get-item.result.now c.get-item.ensures _ _ (ap plan_layer c.in-HStack.is) c.requires)
 
 pub plan_casts-requires-in-HStack : goal.plan_casts-requires-in-HStack
 plan_casts-requires-in-HStack t c =
@@ -57,7 +58,7 @@ plan_casts-requires-in-HStack t c =
 
 pub returns-in_ok-count-in-HStack : goal.returns-in_ok-count-in-HStack
 returns-in_ok-count-in-HStack t c tree d =
-    let counted = plan_counted c.args.plan.now.expr_arena c.args.plan.now.lp_arena c.args.node.0 c.get-item.result.now c.get-item.ensures _ _ c.in_ok-here-in-HStack.here (c.in_ok-below-in-HStack.below ∷ []) (ap plan_layer c.in-HStack.is) (hstack_casts c.args.plan.now.expr_arena _ c.in_ok-here-in-HStack.here c.in_ok-here-in-HStack.ensures) (c.in_ok-below-in-HStack.ensures, tt) tree d in
+    let counted = plan_counted c.args.plan.now.expr_arena c.args.plan.now.lp_arena c.args.node.0 c.get-item.result.now c.get-item.ensures _ _ c.in_ok-here-in-HStack.here (c.in_ok-below-in-HStack.below ∷ []) (ap plan_layer c.in-HStack.is) (list_casts c.args.plan.now.expr_arena HStackWork _ c.in_ok-here-in-HStack.here c.in_ok-here-in-HStack.ensures) (c.in_ok-below-in-HStack.ensures, tt) tree d in
     omega (arith, c.in_ok-count-in-HStack.ensures)
 
 pub plan_casts-requires-in-SimpleProjection : goal.plan_casts-requires-in-SimpleProjection
@@ -72,11 +73,11 @@ returns-in_ok-below-in-SimpleProjection t c tree d =
 
 pub outputs_casts-requires-in-GroupBy : goal.outputs_casts-requires-in-GroupBy
 outputs_casts-requires-in-GroupBy t c =
-    key_outputs c.args.plan.now.expr_arena _ _ (node_kind c.args.plan.now.expr_arena c.args.plan.now.lp_arena c.args.node.0 c.get-item.result.now c.get-item.ensures _ _ (ap plan_layer c.in-GroupBy.is) c.requires)
+    first_outputs c.args.plan.now.expr_arena GroupByWork _ _ (node_kind c.args.plan.now.expr_arena c.args.plan.now.lp_arena c.args.node.0 c.get-item.result.now c.get-item.ensures _ _ (ap plan_layer c.in-GroupBy.is) c.requires)
 
 pub outputs_casts-requires-in-GroupBy-2 : goal.outputs_casts-requires-in-GroupBy-2
 outputs_casts-requires-in-GroupBy-2 t c =
-    aggregate_outputs c.args.plan.now.expr_arena _ _ (node_kind c.args.plan.now.expr_arena c.args.plan.now.lp_arena c.args.node.0 c.get-item.result.now c.get-item.ensures _ _ (ap plan_layer c.in-GroupBy.is) c.requires)
+    second_outputs c.args.plan.now.expr_arena GroupByWork _ _ [] (node_kind c.args.plan.now.expr_arena c.args.plan.now.lp_arena c.args.node.0 c.get-item.result.now c.get-item.ensures _ _ (ap plan_layer c.in-GroupBy.is) c.requires)
 
 pub plan_casts-requires-in-GroupBy : goal.plan_casts-requires-in-GroupBy
 plan_casts-requires-in-GroupBy t c =

@@ -6,13 +6,13 @@ use Rattle.plan_arena.proofs.examples.nodes.kinds_of_plans.Goals as goal
 
 pub returns-clause-select : goal.returns-clause-select
 returns-clause-select c = (
-  named strict_sum ∷ named b ∷ [],
+  (named strict_sum ∷ named b ∷ []) ∷ [],
   refl,
-  (refl, (2 ∷ 1 ∷ [], refl, ((0 ∷ [], refl, (([], refl, tt), tt)), (([], refl, tt), tt))), (refl, ([], refl, tt), tt)),
+  ((refl, (2 ∷ 1 ∷ [], refl, ((0 ∷ [], refl, (([], refl, tt), tt)), (([], refl, tt), tt))), (refl, ([], refl, tt), tt)), tt),
 )
 
 pub returns-clause-group_by : goal.returns-clause-group_by
-returns-clause-group_by c = (named b ∷ [], named a ∷ [], refl, (refl, ([], refl, tt), tt), (refl, ([], refl, tt), tt))
+returns-clause-group_by c = ((named b ∷ []) ∷ (named a ∷ []) ∷ [], refl, ((refl, ([], refl, tt), tt), ((refl, ([], refl, tt), tt), tt)))
 
 pub returns-clause-filter : goal.returns-clause-filter
-returns-clause-filter c = (named a, refl, (refl, ([], refl, tt), tt))
+returns-clause-filter c = ((named a ∷ []) ∷ [], refl, ((refl, ([], refl, tt), tt), tt))

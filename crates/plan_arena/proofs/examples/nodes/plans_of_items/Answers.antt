@@ -14,7 +14,7 @@ pub returns-clause-held_scan : goal.returns-clause-held_scan
 returns-clause-held_scan c = λ schema. record { flat = scan_op (Some 0) (columns schema); item = refl; denotes = scan_denotes [] (Some 0) (columns schema) }
 
 filter_denotes : (items : List AExpr) (n : Named ℕ) (e : Named Expression) → DenoteNamed items (n ∷ []) (e ∷ []) → DenotesOp items (filter_op n) (filter_op e)
-filter_denotes items n e d = record { same_recorded = refl; kind = (e, refl, d) }
+filter_denotes items n e d = record { same_recorded = refl; kind = ((e ∷ []) ∷ [], refl, (d, tt)) }
 
 pub returns-clause-held_filter : goal.returns-clause-held_filter
 returns-clause-held_filter c = λ name. record {

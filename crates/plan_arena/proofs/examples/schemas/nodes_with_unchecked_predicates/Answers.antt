@@ -12,7 +12,7 @@ use Rattle.plan_arena.specs.Layers.{layer}
 use Rattle.plan_arena.specs.Samples.{a_at, filtered_scan, named_at, node_at}
 use Rattle.plan_arena.specs.Unchecked.{HasUncheckedSchema, IsUncheckedAt}
 use Rattle.plan_arena.proofs.DenotationLemmas.{some_same}
-use Rattle.plan_arena.proofs.ItemLemmas.{layer_op, within}
+use Rattle.plan_arena.proofs.ItemLemmas.{filter_denoted, layer_op, within}
 use Rattle.plan_arena.proofs.PlanSchemaLemmas.{keeps_alone, keeps_none, unchecked_at_item}
 use Rattle.plan_arena.proofs.RecordedSchemaLemmas.{filter_records, item_records}
 use Rattle.plan_arena.proofs.UncheckedLemmas.{one_schema, some_one}
@@ -24,7 +24,7 @@ has_schema schema is = record {
   plan = keep a (scan schema_ab);
   denotes = (
     0 ∷ [],
-    record { flat = filter_op (named_at "a" 0); item = refl; denotes = record { same_recorded = refl; kind = (named a, refl, (refl, ([], refl, tt), tt)) } },
+    record { flat = filter_op (named_at "a" 0); item = refl; denotes = record { same_recorded = refl; kind = ((named a ∷ []) ∷ [], refl, ((refl, ([], refl, tt), tt), tt)) } },
     (([], record { flat = scan_op (Some 0) schema_ab; item = ap (λ s. Some (layer (scan_op (Some 0) s) [])) is; denotes = record { same_recorded = refl; kind = refl } }, tt), tt),
   );
   keeps = (refl, ((refl, tt), tt));
@@ -43,7 +43,7 @@ is_schema schema =
 none_without : (schema : Schema) (t : Plan) → Denotes (HoldsPlan [] (filtered_scan schema)) 1 t → ⊥
 none_without schema (node op ts) d =
     let same = some_same (slice_get (map plan_layer (filtered_scan schema)) 1) (layer (filter_op (named_at "a" 0)) (0 ∷ [])) (layer d.1.flat d.0) refl d.1.item in
-    let kind = subst (λ (f : PlanOp (Named ℕ)). DenotesKind [] f.kind op.kind) (sym (layer_op (filter_op (named_at "a" 0)) d.1.flat (0 ∷ []) d.0 same)) d.1.denotes.kind in
+    let kind = filter_denoted [] (named_at "a" 0) op.kind (subst (λ (f : PlanOp (Named ℕ)). DenotesKind [] f.kind op.kind) (sym (layer_op (filter_op (named_at "a" 0)) d.1.flat (0 ∷ []) d.0 same)) d.1.denotes.kind) in
     omega (arith, within [] 0 kind.0.expression kind.2.1)
 
 pub returns-clause-has : goal.returns-clause-has

@@ -1,11 +1,11 @@
 use Rattle.std.proofs.Common.{inl}
 use Rattle.std.proofs.lemmas.Bool.{and_from}
 use Rattle.plan_types.specs.Schemas.{columns}
+use Rattle.plan_dsl.specs.Coercion.{coerced}
+use Rattle.plan_dsl.specs.InlinedCasts.{stays}
 use Rattle.plan_dsl.specs.Registry.{registry}
 use Rattle.plan_infer.specs.KeptTypes.{typed_of}
 use Rattle.plan_infer.proofs.TableLemmas.{extends_itself, kept_typing, right_start}
-use Rattle.plan_coerce.specs.Coercion.{coerced}
-use Rattle.plan_coerce.specs.InlinedCasts.{stays}
 use Rattle.plan_coerce.specs.Rules.{is_settled, is_strict_node, said}
 use Rattle.plan_coerce.proofs.CoercionRuleLemmas.{answer_keeps, answer_right, answer_with, item_there, kept_strict, known_not_number}
 use Rattle.plan_coerce.proofs.SettledLemmas.{settled_no_number}

@@ -3,6 +3,7 @@ use Rattle.plan_types.specs.declared.dtype.DataType.{DataType}
 use Rattle.plan_types.specs.declared.dtype.DataType.TheVariants as dtype
 use Rattle.plan_types.specs.declared.dtype.CastOptions.TheVariants.{NonStrict}
 use Rattle.plan_dsl.specs.declared.operator.Operator.{Operator}
+use Rattle.plan_dsl.specs.InlinedCasts.{is_cast_op}
 use Rattle.plan_dsl.specs.Ops.{Op, BinaryOp, CastOp}
 use Rattle.plan_arena.specs.declared.aexpr.AExpr.{AExpr}
 use Rattle.plan_arena.specs.Items.{HoldsExpression}
@@ -12,7 +13,6 @@ use Rattle.plan_infer.specs.KeptTypes.{KeepsEntry}
 use Rattle.plan_infer.proofs.TableLemmas.{extends_itself}
 use Rattle.plan_infer.specs.Samples.{int32, columns_and, sum_items}
 use Rattle.plan_coerce.specs.CoercionRule.{ForgetsAt}
-use Rattle.plan_coerce.specs.InlinedCasts.{is_cast_op}
 use Rattle.plan_coerce.specs.Samples.{cast_of}
 use Rattle.plan_coerce.proofs.ExampleLemmas.{entry_kept, no_entry_kept, one_entry_kept}
 use Rattle.plan_coerce.proofs.examples.optimizer.types_that_are_forgotten.Goals as goal

@@ -31,7 +31,7 @@ pub add_over-returns-in-Err-clause-err : goal.add_over-returns-in-Err-clause-err
 add_over-returns-in-Err-clause-err t c =
     let r = registry c.args.udfs.now in
     let source = resolved r (plan_tree c.into_inner.result) in
-    step_below r c.args.step (plan_tree c.args.input.value) _ (λ op. refused_below r (resolved_op op (schema_of r source ∷ [])) source _ c.in-Err.error c.below.result c.in-Err.ensures.err c.below.ensures (ap (λ p. resolved r (node op (more (plan_tree p) no_more))) (sym c.into_inner.ensures)))
+    step_below r c.args.step (plan_tree c.args.input.value) _ (λ op. refused_below r (resolved_op r op (schema_of r source ∷ [])) source _ c.in-Err.error c.below.result c.in-Err.ensures.err c.below.ensures (ap (λ p. resolved r (node op (more (plan_tree p) no_more))) (sym c.into_inner.ensures)))
 
 pub add_over-returns-in_err-lowered-in-Ok-clause-err : goal.add_over-returns-in_err-lowered-in-Ok-clause-err
 add_over-returns-in_err-lowered-in-Ok-clause-err t c =

@@ -1,0 +1,35 @@
+//! Nodes over one input, whatever they do: what their lists, names and schemas are, and why one isn't lowered.
+
+ghost use Rattle.std.specs.Prelude.{◌≡◌, [], ◌∷◌, pos, codes, true, false, Some, None};
+ghost use Rattle.plan_types.specs.Errors.{no_memory, at_top};
+ghost use Rattle.plan_types.specs.declared.error.ErrorKind.TheVariants.{ColumnNotFound, ComputeError, Duplicate};
+ghost use Rattle.plan_dsl.specs.Plans.{DropWork, FilterWork, GroupByWork, HStackWork, SelectWork, SimpleProjectionWork, named};
+ghost use Rattle.plan_dsl.specs.Samples.{all, nth, root};
+ghost use Rattle.plan_dsl.specs.Sources.{written};
+ghost use Rattle.plan_lower.specs.Works.{AreUnbroken, IsWorkRefusal, lowered_lists, lowered_names, lowered_output, recorded_of, source_lists, unbroken_schema};
+ghost use Rattle.plan_infer.specs.Samples.{int8, int32, one_column, two_columns, a, b};
+ghost use Rattle.plan_lower.specs.Samples.{alone, as_it_is, grouped_columns};
+
+/// The lists of a group-by, their names and columns, and what a node records of its schema.
+pub fn lists_of_works()
+    ensures sources { source_lists ((as_it_is a int8 ∷ []) ∷ [] ∷ []) ≡ (named a ∷ []) ∷ [] ∷ [] }
+    ensures lowered { lowered_lists ((as_it_is a int8 ∷ []) ∷ (as_it_is b int32 ∷ []) ∷ []) ≡ (named a ∷ []) ∷ (named b ∷ []) ∷ [] }
+    ensures names { lowered_names (as_it_is a int8 ∷ as_it_is b int32 ∷ []) ≡ codes "a" ∷ codes "b" ∷ [] }
+    ensures output { lowered_output (alone a int8) ≡ record { name = codes "a"; typed = record { type = int8; many = false } } }
+    ensures groups { unbroken_schema GroupByWork two_columns ((as_it_is a int8 ∷ []) ∷ (as_it_is b int32 ∷ []) ∷ []) ≡ grouped_columns }
+    ensures stacked { unbroken_schema HStackWork (one_column int8) ((as_it_is b int32 ∷ []) ∷ []) ≡ (codes "a", int8) ∷ (codes "b", int32) ∷ [] }
+    ensures recorded { (recorded_of SelectWork two_columns ≡ Some two_columns) × (recorded_of FilterWork two_columns ≡ None) × (recorded_of (SimpleProjectionWork []) [] ≡ Some []) }
+{}
+
+/// Lists of which a node breaks no rule, and refusals of a node: memory, what can't be expanded, and rules.
+pub fn works_that_are_lowered()
+    ensures select { AreUnbroken [] two_columns SelectWork ((as_it_is a int8 ∷ as_it_is b int32 ∷ []) ∷ []) }
+    ensures repeated { ¬ (AreUnbroken [] two_columns SelectWork ((as_it_is a int8 ∷ as_it_is a int8 ∷ []) ∷ [])) }
+    ensures number { ¬ (AreUnbroken [] two_columns FilterWork ((as_it_is a int8 ∷ []) ∷ [])) }
+    ensures other_lists { ¬ (AreUnbroken [] two_columns SelectWork []) }
+    ensures memory { IsWorkRefusal [] two_columns SelectWork [] no_memory }
+    ensures place_beyond_the_columns { IsWorkRefusal [] (one_column int8) HStackWork ((nth (pos 1) ∷ []) ∷ []) (at_top ColumnNotFound) }
+    ensures name_twice { IsWorkRefusal [] (one_column int8) SelectWork ((all ∷ all ∷ []) ∷ []) (at_top Duplicate) }
+    ensures no_keys { IsWorkRefusal [] (one_column int8) GroupByWork ([] ∷ (all ∷ []) ∷ []) (at_top ComputeError) }
+    ensures absent { IsWorkRefusal [] (one_column int8) (DropWork true) ((root (written b) ∷ []) ∷ []) (at_top ColumnNotFound) }
+{}
