@@ -131,8 +131,15 @@ _WORD = re.compile(r"\w+")
 _DECODER = json.JSONDecoder()
 
 
+# A node's place, its name, which may have spaces, and its schema, which begins before the first column, if there is one.
+_NODE = re.compile(r'(\S+) (.*?) (\((?:\)|").*)')
+
+
 def _read_node(line: str) -> Node:
-    path, name, schema = line.split(" ", 2)
+    node = _NODE.fullmatch(line)
+    if node is None:
+        raise ValueError(f"no node: {line!r}")
+    path, name, schema = node.groups()
     fields, at = _read_fields(schema, _past(schema, 0, "("))
     if at != len(schema):
         raise ValueError(f"something stands behind the schema: {line!r}")

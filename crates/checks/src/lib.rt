@@ -60,3 +60,5 @@ pub mod sums;
 mod types;
 #[cfg(test)]
 mod values;
+#[cfg(test)]
+mod works;

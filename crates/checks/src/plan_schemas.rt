@@ -84,8 +84,8 @@ fn schemas_of_nodes_of_any_depth_are_told(rt: HostRuntime) {
     }
 }
 
-// The item on top of the lowered plan is copied.
-fn assert_copied(rt: &impl Abort, alloc: Global, plan: DslPlan) {
+/// The item on top of the lowered plan is copied.
+pub(crate) fn assert_copied(rt: &impl Abort, alloc: Global, plan: DslPlan) {
     let udfs = Udfs::new(alloc);
     match plan.to_alp(alloc, &udfs) {
         Err(_) => panic!(rt; "{NO_MEMORY}"),

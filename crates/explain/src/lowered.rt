@@ -7,10 +7,12 @@ ghost use Rattle.plan_report.specs.Casts.{DenoteOutputs};
 
 use plan_arena::aexpr::AExpr;
 use plan_arena::arena::{Arena, Node};
-use plan_arena::expr_ir::ExprIRs;
+use plan_arena::expr_ir::ExprIR;
 use plan_arena::ir::IR;
 use plan_arena::plan::IRPlan;
 use plan_dsl::aggregate::GroupByMethod;
+use plan_dsl::distinct_options::{DistinctOptionsIR, UniqueKeepStrategy};
+use plan_dsl::function::FunctionIR;
 use plan_dsl::function_expr::FunctionExpr;
 use plan_dsl::literal::LiteralValue;
 use plan_dsl::sort_options::SortOptions;
@@ -50,23 +52,11 @@ pub(crate) fn notes(alloc: Global, plan: &IRPlan, udfs: &Udfs) -> Result<Vec<Str
             schema: schema_at(plan, input),
             udfs,
         };
-        let note = match item {
-            IR::Filter { predicate, .. } => {
-                let text = site.typed(predicate.node(), Context::Default)?;
-                format!(in alloc; "    {text}\n")?
-            }
-            IR::Select { expr, .. } => site.lines(expr, Context::Default)?,
-            IR::HStack { exprs, .. } => site.lines(exprs, Context::Default)?,
-            IR::GroupBy { keys, aggs, .. } => {
-                let keys = site.lines(keys, Context::Default)?;
-                let aggs = site.lines(aggs, Context::Aggregation)?;
-                format!(in alloc; "{keys}{aggs}")?
-            }
-            IR::DataFrameScan { .. } | IR::SimpleProjection { .. } | IR::Invalid => {
-                String::new(alloc)
-            }
-        };
-        notes.push(note)?;
+        let (outputs, aggs) = item.expressions();
+        let outputs = site.lines(item, outputs, Context::Default)?;
+        let aggs = site.lines(item, aggs, Context::Aggregation)?;
+        let options = options_line(alloc, item)?;
+        notes.push(format!(in alloc; "{outputs}{aggs}{options}")?)?;
         node = input;
     }
     Ok(notes)
@@ -80,15 +70,15 @@ pub(crate) fn schema_at(plan: &IRPlan, node: Node) -> &Schema
 }
 
 impl Site<'_> {
-    // A line for each expression, with its name.
-    fn lines(&self, outputs: &ExprIRs, context: Context) -> Result<String, AllocError>
-        requires { DenoteOutputs self.now.arena.now (map named_node outputs.now.items.items) }
+    // A line for each of a node's expressions, with its name where that is one of a column.
+    fn lines(&self, item: &IR, outputs: &[ExprIR], context: Context) -> Result<String, AllocError>
+        requires { DenoteOutputs self.now.arena.now (map named_node outputs.now) }
     {
         let mut lines = String::new(self.alloc);
-        for output in outputs.items.as_slice() {
+        for output in outputs {
             let text = self.typed(output.node(), context)?;
-            let name = quoted(self.alloc, output.output_name().as_str())?;
-            write!(lines, "    {text} as {name}\n")?;
+            let name = naming(self.alloc, item, output)?;
+            write!(lines, "    {text}{name}\n")?;
         }
         Ok(lines)
     }
@@ -133,6 +123,54 @@ impl Site<'_> {
         }
         Ok(text)
     }
+}
+
+// What a line says of the name of an expression: predicates and keys of a sort give no columns.
+fn naming(alloc: Global, item: &IR, output: &ExprIR) -> Result<String, AllocError> {
+    match item {
+        IR::Filter { .. } | IR::Sort { .. } => Ok(String::new(alloc)),
+        _ => format!(in alloc; " as {}", quoted(alloc, output.output_name().as_str())?),
+    }
+}
+
+// A line of what a node does besides its expressions, where it says more than its name.
+fn options_line(alloc: Global, item: &IR) -> Result<String, AllocError> {
+    match item {
+        IR::Cache { id, .. } => format!(in alloc; "    id {id}\n"),
+        IR::Distinct { options, .. } => distinct_line(alloc, options),
+        IR::MapFunction {
+            function: FunctionIR::Rechunk,
+            ..
+        } => String::from_str(alloc, "    rechunk\n"),
+        IR::Slice { offset, len, .. } => format!(in alloc; "    offset {offset}, length {len}\n"),
+        IR::Sort { sort_options, .. } => {
+            let descending = sort_options.descending.items.as_slice();
+            let nulls_last = sort_options.nulls_last.items.as_slice();
+            format!(in alloc; "    descending {descending:?}, nulls last {nulls_last:?}\n")
+        }
+        _ => Ok(String::new(alloc)),
+    }
+}
+
+// Which of equal rows a distinct keeps, and by which columns rows are equal where it isn't by all.
+fn distinct_line(alloc: Global, options: &DistinctOptionsIR) -> Result<String, AllocError> {
+    let keep = match options.keep_strategy {
+        UniqueKeepStrategy::First => "first",
+        UniqueKeepStrategy::Last => "last",
+        UniqueKeepStrategy::None => "none",
+        UniqueKeepStrategy::Any => "any",
+    };
+    let Some(subset) = &options.subset else {
+        return format!(in alloc; "    keep {keep}\n");
+    };
+    let mut names = Vec::new(alloc);
+    for name in subset.items.as_slice() {
+        names.push(name_words(alloc, name.as_str())?)?;
+    }
+    format!(in alloc;
+        "    keep {keep} by [{}]\n",
+        names.as_slice().join(alloc, ", ")?
+    )
 }
 
 // The text of an item over the texts of its inputs, in their order.

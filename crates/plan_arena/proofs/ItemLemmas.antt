@@ -13,7 +13,7 @@ use Rattle.plan_arena.specs.Layers.{Layer, layer, inputs_of, op_of, shape_of}
 use Rattle.plan_arena.specs.Items.{expression_layer, plan_layer, HoldsExpression, HoldsFrom, DenoteNamed, DenoteLists, DenotesKind, DenotesOp, HoldsPlan, DenotesItem, HasInputs, Grows}
 use Rattle.plan_arena.specs.declared.aexpr.AExpr.{AExpr}
 use Rattle.plan_arena.specs.declared.ir.IR.{IR}
-use Rattle.plan_arena.specs.declared.ir.IR.TheVariants.{DataFrameScan, Filter, GroupBy, HStack, Select, SimpleProjection, Invalid}
+use Rattle.plan_arena.specs.declared.ir.IR.TheVariants.{Cache, DataFrameScan, Distinct, Filter, GroupBy, HStack, MapFunction, Select, SimpleProjection, Sink, Slice, Sort, Invalid}
 use Rattle.plan_arena.specs.declared.arena.Node.{Node}
 use Rattle.plan_arena.specs.declared.expr_ir.ExprIR.{ExprIR}
 use Rattle.plan_arena.proofs.DenotationLemmas.{HasShape, all_denote, some_same, denotes_one, kept, inputs_denote, depth_of_inputs}
@@ -104,12 +104,6 @@ list_denoted items work nodes kind (outputs ∷ [], e, d) = (outputs, e, d.0)
 list_denoted items work nodes kind ([], e, d) = absurd d
 list_denoted items work nodes kind (outputs ∷ others ∷ lists, e, d) = absurd d.1
 
-pub two_denoted : (items : List AExpr) (work : Work) (nodes others : List (Named ℕ)) (kind : PlanKind (Named Expression)) → DenotesKind items (OverKind work (nodes ∷ others ∷ [])) kind → (outputs : List (Named Expression)) × (behind : List (Named Expression)) × (kind ≡ OverKind work (outputs ∷ behind ∷ [])) × DenoteNamed items nodes outputs × DenoteNamed items others behind
-two_denoted items work nodes others kind (outputs ∷ behind ∷ [], e, d) = (outputs, behind, e, d.0, d.1.0)
-two_denoted items work nodes others kind ([], e, d) = absurd d
-two_denoted items work nodes others kind (outputs ∷ [], e, d) = absurd d.1
-two_denoted items work nodes others kind (outputs ∷ behind ∷ more_lists ∷ lists, e, d) = absurd d.1.1
-
 one_named : (items : List AExpr) (n : Named ℕ) (outputs : List (Named Expression)) → DenoteNamed items (n ∷ []) outputs → (e : Named Expression) × (outputs ≡ e ∷ []) × DenoteNamed items (n ∷ []) (e ∷ [])
 one_named items n (e ∷ []) d = (e, refl, d)
 one_named items n [] d = absurd d
@@ -123,11 +117,6 @@ filter_denoted items n kind d =
     let only = list_denoted items FilterWork (n ∷ []) kind d in
     let one = one_named items n only.0 only.2 in
     (one.0, only.1 ∙ ap (λ l. OverKind FilterWork (l ∷ [])) one.1, one.2)
-
--- what nodes over no list denote is the same
-pub none_denoted : (items : List AExpr) (work : Work) (kind : PlanKind (Named Expression)) → DenotesKind items (OverKind work []) kind → kind ≡ OverKind work []
-none_denoted items work kind ([], e, d) = e
-none_denoted items work kind (outputs ∷ lists, e, d) = absurd d
 
 op_one : (items : List AExpr) (flat : PlanOp (Named ℕ)) (a b : PlanOp (Named Expression)) → DenotesOp items flat a → DenotesOp items flat b → a ≡ b
 op_one items flat a b d e =
@@ -204,16 +193,6 @@ plan_here items plans n (node op ts) d = omega (arith, slice_get_within (map pla
 pub plan_within : (items : List AExpr) (plans : List IR) (n : ℕ) → DenotesTree (HoldsPlan items plans) n → n < length plans
 plan_within items plans n d = plan_here items plans n d.tree d.denotes
 
--- of items that were not taken out only a filter's records no schema
-pub records_unless_filter : (item : IR) → item ≢ Invalid → ((input : Node) (predicate : ExprIR) → item ≡ Filter input predicate → ⊥) → IsTrue (is_some (op_of (plan_layer item)).recorded)
-records_unless_filter (Filter input predicate) valid other = absurd (other input predicate refl)
-records_unless_filter (DataFrameScan table schema) valid other = refl
-records_unless_filter (GroupBy input keys aggs schema maintain_order) valid other = refl
-records_unless_filter (HStack exprs input schema options) valid other = refl
-records_unless_filter (Select expr input schema options) valid other = refl
-records_unless_filter (SimpleProjection input schema) valid other = refl
-records_unless_filter Invalid valid other = absurd (valid refl)
-
 -- an item that does something was not taken out
 pub is_valid : (expressions : List AExpr) (item : IR) (flat : PlanOp (Named ℕ)) (inputs : List ℕ) (op : PlanOp (Named Expression)) → plan_layer item ≡ layer flat inputs → DenotesOp expressions flat op → item ≢ Invalid
 is_valid expressions (Filter input predicate) flat inputs op is d e = cc
@@ -222,6 +201,12 @@ is_valid expressions (GroupBy input keys aggs schema maintain_order) flat inputs
 is_valid expressions (HStack exprs input schema options) flat inputs op is d e = cc
 is_valid expressions (Select expr input schema options) flat inputs op is d e = cc
 is_valid expressions (SimpleProjection input schema) flat inputs op is d e = cc
+is_valid expressions (Sort input by_column sort_options) flat inputs op is d e = cc
+is_valid expressions (Distinct input options) flat inputs op is d e = cc
+is_valid expressions (Slice input offset len) flat inputs op is d e = cc
+is_valid expressions (Cache input id cache_hits) flat inputs op is d e = cc
+is_valid expressions (Sink input payload) flat inputs op is d e = cc
+is_valid expressions (MapFunction input function) flat inputs op is d e = cc
 is_valid expressions Invalid flat inputs op is d e =
     subst (λ (f : PlanOp (Named ℕ)). DenotesKind expressions f.kind op.kind) (sym (layer_op _ flat [] inputs is)) d.kind
 

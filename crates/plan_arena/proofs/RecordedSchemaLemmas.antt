@@ -3,7 +3,7 @@ use Rattle.std.proofs.Common.{◌≡◌, ℕ, List, [], ◌∷◌, Some, None, s
 use Rattle.plan_types.specs.Schemas.{Columns}
 use Rattle.plan_dsl.specs.Trees.{Trees, node, no_more, more, fold_all}
 use Rattle.plan_dsl.specs.Ops.{Expression}
-use Rattle.plan_dsl.specs.Plans.{Named, PlanKind, PlanOp, Plan, filter_op}
+use Rattle.plan_dsl.specs.Plans.{Named, PlanKind, PlanOp, Plan}
 use Rattle.plan_dsl.specs.PlanRules.{input_schema}
 use Rattle.plan_arena.specs.declared.aexpr.AExpr.{AExpr}
 use Rattle.plan_arena.specs.declared.ir.IR.{IR}
@@ -24,18 +24,18 @@ item_records plans item own is expressions (node op ts) d =
     let same = sym d.1.denotes.same_recorded ∙ ap (λ (l : Layer (PlanOp (Named ℕ))). (op_of l).recorded) (sym d.1.is) ∙ is in
     ap (λ r. own_schema r (input_schema (fold_all recorded_over ts) 0)) same
 
-over_filter : (expressions : List AExpr) (plans : List IR) (n : ℕ) (below : IR) (schema : Columns) → slice_get plans n ≡ Some below → RecordsSchema plans below schema → (op : PlanOp (Named Expression)) → op.recorded ≡ None → (ts : Trees (PlanOp (Named Expression))) → DenoteAll (HoldsPlan expressions plans) (n ∷ []) ts → schema_recorded (node op ts) ≡ Some schema
-over_filter expressions plans n below schema got has op none (more t no_more) d =
+over_kept : (expressions : List AExpr) (plans : List IR) (n : ℕ) (below : IR) (schema : Columns) → slice_get plans n ≡ Some below → RecordsSchema plans below schema → (op : PlanOp (Named Expression)) → op.recorded ≡ None → (ts : Trees (PlanOp (Named Expression))) → DenoteAll (HoldsPlan expressions plans) (n ∷ []) ts → schema_recorded (node op ts) ≡ Some schema
+over_kept expressions plans n below schema got has op none (more t no_more) d =
     ap (λ r. own_schema r (schema_recorded t)) none ∙ has expressions t (item_denotes expressions plans n below got t d.0)
-over_filter expressions plans n below schema got has op none no_more d = absurd d
-over_filter expressions plans n below schema got has op none (more t (more u ts)) d = absurd d.1
+over_kept expressions plans n below schema got has op none no_more d = absurd d
+over_kept expressions plans n below schema got has op none (more t (more u ts)) d = absurd d.1
 
--- a filter's item, whose input records one
-pub filter_records : (plans : List IR) (item below : IR) (predicate : Named ℕ) (n : ℕ) (schema : Columns) → plan_layer item ≡ layer (filter_op predicate) (n ∷ []) → slice_get plans n ≡ Some below → RecordsSchema plans below schema → RecordsSchema plans item schema
-filter_records plans item below predicate n schema is got has expressions (node op ts) d =
+-- an item over one input that records none itself, whose input records one
+pub kept_records : (plans : List IR) (item below : IR) (own : PlanOp (Named ℕ)) (n : ℕ) (schema : Columns) → plan_layer item ≡ layer own (n ∷ []) → own.recorded ≡ None → slice_get plans n ≡ Some below → RecordsSchema plans below schema → RecordsSchema plans item schema
+kept_records plans item below own n schema is records got has expressions (node op ts) d =
     let same = sym d.1.is ∙ is in
-    let none = sym d.1.denotes.same_recorded ∙ ap (λ (f : PlanOp (Named ℕ)). f.recorded) (layer_op d.1.flat (filter_op predicate) d.0 (n ∷ []) same) in
-    over_filter expressions plans n below schema got has op none ts (subst (λ ns. DenoteAll (HoldsPlan expressions plans) ns ts) (layer_inputs d.1.flat (filter_op predicate) d.0 (n ∷ []) same) d.2)
+    let none = sym d.1.denotes.same_recorded ∙ ap (λ (f : PlanOp (Named ℕ)). f.recorded) (layer_op d.1.flat own d.0 (n ∷ []) same) ∙ records in
+    over_kept expressions plans n below schema got has op none ts (subst (λ ns. DenoteAll (HoldsPlan expressions plans) ns ts) (layer_inputs d.1.flat own d.0 (n ∷ []) same) d.2)
 
 records_first : (expressions : List AExpr) (plans : List IR) (below : IR) (schema : Columns) (kind : PlanKind (Named Expression)) (ns : List ℕ) (first : ℕ) → slice_get ns 0 ≡ Some first → slice_get plans first ≡ Some below → RecordsSchema plans below schema → (ts : Trees (PlanOp (Named Expression))) → DenoteAll (HoldsPlan expressions plans) ns ts → Some schema ≡ recorded_into kind ts
 records_first expressions plans below schema kind [] first there got has ts d = cc

@@ -1,5 +1,5 @@
 -- Plans whose predicates' types aren't checked: their schemas are those that are recorded, with any arena of expressions.
-use Rattle.std.proofs.Common.{◌≡◌, ℕ, List, [], ◌∷◌, ◌++◌, map, IsTrue, true, Option, Some, None, is_some, option_map, slice_get, refl, sym, ap, ◌∙◌, subst}
+use Rattle.std.proofs.Common.{◌≡◌, ◌≢◌, ℕ, List, [], ◌∷◌, ◌++◌, map, IsTrue, true, Option, Some, None, is_some, option_map, slice_get, refl, sym, ap, ◌∙◌, subst}
 use Rattle.std.specs.List.{AllByRecursion}
 use Rattle.std.proofs.lemmas.Option.{slice_get-map}
 use Rattle.plan_types.specs.Schemas.{Columns, columns}
@@ -7,15 +7,17 @@ use Rattle.plan_types.specs.declared.error.ErrorKind.{ErrorKind}
 use Rattle.plan_dsl.specs.Registry.{Registry}
 use Rattle.plan_dsl.specs.Trees.{Trees, node, no_more, more, fold_all}
 use Rattle.plan_dsl.specs.Ops.{Expression}
-use Rattle.plan_dsl.specs.Plans.{Named, Work, FilterWork, PlanKind, OverKind, PlanOp, Plan, expressions_of, over_op, filter_op}
+use Rattle.plan_dsl.specs.Plans.{Named, Work, FilterWork, SliceWork, DistinctWork, PassWork, CachePass, SinkPass, PlanKind, OverKind, PlanOp, Plan, column_names, expressions_of, function_work, over_op, sort_work}
+use Rattle.plan_dsl.specs.declared.function.FunctionIR.{FunctionIR}
+use Rattle.plan_dsl.specs.declared.function.FunctionIR.TheVariants.{Rechunk}
 use Rattle.plan_dsl.specs.PlanRules.{TypedOutput, all_type_kinds, expression_kinds, input_schema, keeps_schema, own_kinds, plan_rule, schema_by, schema_of, schemas_of, typed_lists, where_unbroken, work_schema}
 use Rattle.plan_dsl.proofs.RuleLemmas.{kept_schemas}
 use Rattle.plan_arena.specs.declared.aexpr.AExpr.{AExpr}
 use Rattle.plan_arena.specs.declared.ir.IR.{IR}
-use Rattle.plan_arena.specs.declared.ir.IR.TheVariants.{DataFrameScan, Filter, GroupBy, HStack, Select, SimpleProjection, Invalid}
+use Rattle.plan_arena.specs.declared.ir.IR.TheVariants.{Cache, DataFrameScan, Distinct, Filter, GroupBy, HStack, MapFunction, Select, SimpleProjection, Sink, Slice, Sort, Invalid}
 use Rattle.plan_arena.specs.Denotation.{Denotes, DenoteAll}
 use Rattle.plan_arena.specs.Layers.{Layer, layer, op_of}
-use Rattle.plan_arena.specs.Items.{DenotesItem, DenotesKind, DenotesOp, HoldsPlan, named_node, plan_layer}
+use Rattle.plan_arena.specs.Items.{DenotesItem, DenotesKind, DenotesOp, HoldsPlan, KeepsInput, plan_layer}
 use Rattle.plan_arena.specs.PlanSchemas.{schema_into}
 use Rattle.plan_arena.specs.RecordedSchemas.{recorded_into, recorded_over, schema_recorded}
 use Rattle.plan_arena.specs.Runs.{AllAccepted, HasRecorded, IsAccepted, own_schema}
@@ -77,23 +79,35 @@ by_recorded : (r found first : Option Columns) → HasRecorded r found → (r �
 by_recorded (Some own) found first has none = sym has
 by_recorded None found first has none = none refl
 
-module _ (expressions : List AExpr) where
-  records : (l : Layer (PlanOp (Named ℕ))) (own : Columns) (flat : PlanOp (Named ℕ)) (ns : List ℕ) (op : PlanOp (Named Expression)) → l ≡ layer flat ns → (op_of l).recorded ≡ Some own → DenotesOp expressions flat op → op.recorded ≡ None → ⊥
-  records l own flat ns op is recorded d none =
-      let some : Some own ≡ None = sym recorded ∙ ap (λ (l : Layer (PlanOp (Named ℕ))). (op_of l).recorded) is ∙ d.same_recorded ∙ none in
-      cc
+-- the works of functions keep it
+function_keeps : (function : FunctionIR) → keeps_schema (function_work function) ≡ true
+function_keeps Rechunk = refl
 
+over_input_of : (work : Work) (nodes : List (List (Named ℕ))) (input : ℕ) → keeps_schema work ≡ true → (n : ℕ) × KeepsInput (layer (over_op work nodes None) (input ∷ [])) n
+over_input_of work nodes input keeps = (input, record { work = work; nodes = nodes; keeps = keeps; is = refl })
+
+-- an item that records none and was not taken out keeps the schema of its only input
+pub keeps_input : (item : IR) → item ≢ Invalid → (op_of (plan_layer item)).recorded ≡ None → (n : ℕ) × KeepsInput (plan_layer item) n
+keeps_input (Filter input predicate) valid none = over_input_of FilterWork _ input.0 refl
+keeps_input (Sort input by_column sort_options) valid none = over_input_of (sort_work sort_options) _ input.0 refl
+keeps_input (Distinct input options) valid none = over_input_of (DistinctWork options.keep_strategy (column_names options.subset)) _ input.0 refl
+keeps_input (Slice input offset len) valid none = over_input_of (SliceWork offset len) _ input.0 refl
+keeps_input (Cache input id cache_hits) valid none = over_input_of (PassWork (CachePass id)) _ input.0 refl
+keeps_input (Sink input payload) valid none = over_input_of (PassWork SinkPass) _ input.0 refl
+keeps_input (MapFunction input function) valid none = over_input_of (function_work function) _ input.0 (function_keeps function)
+keeps_input Invalid valid none = absurd (valid refl)
+keeps_input _ valid none = cc
+
+module _ (expressions : List AExpr) where
+  -- an item that records none keeps the schema of its only input
   -- an item that records none keeps the schema of its only input
   keeps_its : (item : IR) (flat : PlanOp (Named ℕ)) (ns : List ℕ) (op : PlanOp (Named Expression)) → plan_layer item ≡ layer flat ns → DenotesOp expressions flat op → op.recorded ≡ None → (work : Work) × (lists : List (List (Named Expression))) × (m : ℕ) × (keeps_schema work ≡ true) × (op.kind ≡ OverKind work lists) × (ns ≡ m ∷ [])
-  keeps_its (Filter input predicate) flat ns op is d none =
-      let kind = subst (λ (f : PlanOp (Named ℕ)). DenotesKind expressions f.kind op.kind) (sym (layer_op (filter_op (named_node predicate)) flat (input.0 ∷ []) ns is)) d.kind in
-      (FilterWork, kind.0, input.0, refl, kind.1, sym (layer_inputs (filter_op (named_node predicate)) flat (input.0 ∷ []) ns is))
-  keeps_its (DataFrameScan table schema) flat ns op is d none = absurd (records _ (columns schema) flat ns op is refl d none)
-  keeps_its (GroupBy input keys aggs schema maintain_order) flat ns op is d none = absurd (records _ (columns schema) flat ns op is refl d none)
-  keeps_its (HStack exprs input schema options) flat ns op is d none = absurd (records _ (columns schema) flat ns op is refl d none)
-  keeps_its (Select expr input schema options) flat ns op is d none = absurd (records _ (columns schema) flat ns op is refl d none)
-  keeps_its (SimpleProjection input schema) flat ns op is d none = absurd (records _ (columns schema) flat ns op is refl d none)
-  keeps_its Invalid flat ns op is d none = absurd (is_valid expressions Invalid flat ns op is d refl)
+  keeps_its item flat ns op is d none =
+      let recorded = ap (λ (l : Layer (PlanOp (Named ℕ))). (op_of l).recorded) is ∙ d.same_recorded ∙ none in
+      let own = keeps_input item (is_valid expressions item flat ns op is d) recorded in
+      let same = sym own.1.is ∙ is in
+      let kind = subst (λ (f : PlanOp (Named ℕ)). DenotesKind expressions f.kind op.kind) (sym (layer_op (over_op own.1.work own.1.nodes None) flat (own.0 ∷ []) ns same)) d.kind in
+      (own.1.work, kind.0, own.0, own.1.keeps, kind.1, sym (layer_inputs (over_op own.1.work own.1.nodes None) flat (own.0 ∷ []) ns same))
 
   item_of : (found : Option IR) (l : Layer (PlanOp (Named ℕ))) → option_map plan_layer found ≡ Some l → (item : IR) × (plan_layer item ≡ l)
   item_of None l e = cc

@@ -1,7 +1,7 @@
 -- The items of the two arenas.
 -- An item of the plans' arena holds a plan's op where its expression nodes denote that op's expressions.
-use Rattle.std.specs.Prelude.{◌≡◌, ◌≢◌, ◌≤◌, ℕ, List, [], ◌∷◌, ◌++◌, map, set, Option, Some, None, slice_get, codes}
-use Rattle.std.specs.List.{AllByRecursion}
+use Rattle.std.specs.Prelude.{◌≡◌, ◌≢◌, ◌≤◌, ℕ, List, [], ◌∷◌, ◌++◌, map, set, Option, Some, None, slice_get, codes, true}
+use Rattle.std.specs.List.{AllByRecursion, flat_map}
 use Rattle.plan_types.specs.Types.{ty}
 use Rattle.plan_types.specs.Schemas.{columns}
 use Rattle.plan_dsl.specs.Expressions.{sort_by_op}
@@ -9,7 +9,8 @@ use Rattle.plan_dsl.specs.Ops.{Op, ColumnOp, BinaryOp, CastOp, LenOp, SliceOp, A
 use Rattle.plan_dsl.specs.declared.sort_options.SortOptions.{SortOptions}
 use Rattle.plan_dsl.specs.Literals.{literal_op}
 use Rattle.plan_dsl.specs.Names.{Label, FromField, FromNothing, alias_label, column_label, literal_label}
-use Rattle.plan_dsl.specs.Plans.{Work, SelectWork, HStackWork, GroupByWork, FilterWork, SimpleProjectionWork, DropWork, SliceWork, SortWork, DistinctWork, PassWork, CachePass, SinkPass, RechunkPass, PlanKind, ScanKind, OverKind, RefusedKind, PlanOp, Plan, Named, scan_op, select_op, hstack_op, group_by_op, filter_op, simple_projection_op}
+use Rattle.plan_dsl.specs.Plans.{Work, SelectWork, HStackWork, GroupByWork, FilterWork, SimpleProjectionWork, DropWork, SliceWork, SortWork, DistinctWork, PassWork, CachePass, SinkPass, RechunkPass, PlanKind, ScanKind, OverKind, RefusedKind, PlanOp, Plan, Named, scan_op, select_op, hstack_op, group_by_op, filter_op, simple_projection_op, over_op, sort_work, function_work, column_names, expressions_of}
+use Rattle.plan_dsl.specs.PlanRules.{keeps_schema}
 use Rattle.plan_arena.specs.Aggregates.{input_at, method_at}
 use Rattle.plan_arena.specs.Denotation.{Denotes, DenoteAll, DenotesTree}
 use Rattle.plan_arena.specs.Layers.{Layer, layer, op_of, inputs_of}
@@ -21,7 +22,7 @@ use Rattle.plan_arena.specs.declared.expr_ir.OutputName.{OutputName}
 use Rattle.plan_arena.specs.declared.expr_ir.OutputName.TheVariants.{None as Unnamed, ColumnLhs, LiteralLhs, Alias as NamedByAlias, Field}
 use Rattle.plan_arena.specs.declared.expr_ir.ExprIR.{ExprIR}
 use Rattle.plan_arena.specs.declared.ir.IR.{IR}
-use Rattle.plan_arena.specs.declared.ir.IR.TheVariants.{DataFrameScan, Filter, GroupBy, HStack, Select, SimpleProjection, Invalid}
+use Rattle.plan_arena.specs.declared.ir.IR.TheVariants.{Cache, DataFrameScan, Distinct, Filter, GroupBy, HStack, MapFunction, Select, SimpleProjection, Sink, Slice as SliceOf, Sort as SortOf, Invalid}
 use Rattle.plan_arena.specs.declared.plan.IRPlan.{IRPlan}
 
 -- the numbers of nodes
@@ -96,10 +97,26 @@ plan_layer (HStack exprs input schema options) = layer (hstack_op (map named_nod
 plan_layer (GroupBy input keys aggs schema maintain_order) = layer (group_by_op (map named_node keys.items.items) (map named_node aggs.items.items) (Some (columns schema))) (input.0 ∷ [])
 plan_layer (Filter input predicate) = layer (filter_op (named_node predicate)) (input.0 ∷ [])
 plan_layer (SimpleProjection input schema) = layer (simple_projection_op (columns schema) (Some (columns schema))) (input.0 ∷ [])
+plan_layer (SortOf input by_column sort_options) = layer (over_op (sort_work sort_options) (map named_node by_column.items.items ∷ []) None) (input.0 ∷ [])
+plan_layer (Distinct input options) = layer (over_op (DistinctWork options.keep_strategy (column_names options.subset)) [] None) (input.0 ∷ [])
+plan_layer (SliceOf input offset len) = layer (over_op (SliceWork offset len) [] None) (input.0 ∷ [])
+plan_layer (Cache input id cache_hits) = layer (over_op (PassWork (CachePass id)) [] None) (input.0 ∷ [])
+plan_layer (Sink input payload) = layer (over_op (PassWork SinkPass) [] None) (input.0 ∷ [])
+plan_layer (MapFunction input function) = layer (over_op (function_work function) [] None) (input.0 ∷ [])
 plan_layer Invalid = layer (record { kind = RefusedKind []; recorded = None }) []
 
--- What a report calls a node over one input, and a node of the kind. No item is a drop, and none yet a slice, a sort, a distinct or
--- what passes rows on.
+-- the expressions of a node, of all its lists in order
+abbrev pub nodes_of : {E : Type 0} → PlanKind E → List E
+nodes_of kind = flat_map (λ list. list.outputs) (expressions_of kind)
+
+-- a node over one input that records no schema, since it keeps that of its input
+pub record KeepsInput (item : Layer (PlanOp (Named ℕ))) (input : ℕ) : Type 0 where
+  pub work : Work
+  pub nodes : List (List (Named ℕ))
+  pub keeps : keeps_schema work ≡ true
+  pub is : item ≡ layer (over_op work nodes None) (input ∷ [])
+
+-- What a report calls a node over one input, and a node of the kind. No item is a drop.
 abbrev pub work_text : Work → List ℕ
 work_text SelectWork = codes "projection"
 work_text HStackWork = codes "hstack"

@@ -1,9 +1,9 @@
 -- The options that items of a lowered plan carry: what they do has none of them, since they mean nothing.
 use Rattle.std.specs.Prelude.{List, [], ◌∷◌}
 use Rattle.std.specs.List.{flat_map}
-use Rattle.plan_dsl.specs.Plans.{PlanOption, OrderOption, ProjectionOption}
+use Rattle.plan_dsl.specs.Plans.{PlanOption, HitsOption, OrderOption, ProjectionOption}
 use Rattle.plan_arena.specs.declared.ir.IR.{IR}
-use Rattle.plan_arena.specs.declared.ir.IR.TheVariants.{DataFrameScan, Filter, GroupBy, HStack, Select, SimpleProjection, Invalid}
+use Rattle.plan_arena.specs.declared.ir.IR.TheVariants.{Cache, DataFrameScan, Distinct, Filter, GroupBy, HStack, MapFunction, Select, SimpleProjection, Sink, Slice, Sort, Invalid}
 
 -- the option of an item, if it has one
 abbrev pub option_of : IR → List PlanOption
@@ -13,6 +13,12 @@ option_of (HStack exprs input schema options) = ProjectionOption options ∷ []
 option_of (GroupBy input keys aggs schema maintain_order) = OrderOption maintain_order ∷ []
 option_of (Filter input predicate) = []
 option_of (SimpleProjection input schema) = []
+option_of (Sort input by_column sort_options) = []
+option_of (Distinct input options) = OrderOption options.maintain_order ∷ []
+option_of (Slice input offset len) = []
+option_of (Cache input id cache_hits) = HitsOption cache_hits ∷ []
+option_of (Sink input payload) = []
+option_of (MapFunction input function) = []
 option_of Invalid = []
 
 -- the options of an arena's items, in the order of their numbers

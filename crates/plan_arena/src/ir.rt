@@ -1,11 +1,11 @@
 //! Lowered plans in an arena.
-ghost use Rattle.std.specs.Prelude.{◌≡◌, List, IfOk, IfErr, IfSome, IsTrue, Some, is_some};
+ghost use Rattle.std.specs.Prelude.{◌≡◌, ◌≢◌, ◌++◌, List, map, IfOk, IfErr, IfSome, IsTrue, MatchOption, Some, is_some};
 ghost use Rattle.plan_types.specs.Errors.{no_memory};
 ghost use Rattle.plan_types.specs.Schemas.{columns};
 ghost use Rattle.plan_dsl.specs.Plans.{Plan};
 ghost use Rattle.plan_dsl.specs.PlanRules.{schema_of};
 ghost use Rattle.plan_dsl.specs.Registry.{Registry};
-ghost use Rattle.plan_arena.specs.Items.{node_name, plan_layer, DenotesItem, HasInputs};
+ghost use Rattle.plan_arena.specs.Items.{named_node, node_name, nodes_of, plan_layer, DenotesItem, HasInputs, KeepsInput};
 ghost use Rattle.plan_arena.specs.Layers.{op_of};
 ghost use Rattle.plan_arena.specs.Options.{option_of};
 ghost use Rattle.plan_arena.specs.RecordedSchemas.{schema_recorded};
@@ -15,19 +15,34 @@ ghost use Rattle.plan_arena.specs.declared.aexpr.AExpr.{AExpr};
 
 use crate::arena::{Arena, Node};
 use crate::expr_ir::{ExprIR, ExprIRs};
-use plan_dsl::plan::ProjectionOptions;
+use plan_dsl::distinct_options::DistinctOptionsIR;
+use plan_dsl::function::FunctionIR;
+use plan_dsl::plan::{ProjectionOptions, SinkType};
+use plan_dsl::sort_options::SortMultipleOptions;
 use plan_dsl::udfs::Udfs;
 use plan_types::error::PlanError;
 use plan_types::schema::Schema;
 use std::alloc::Global;
+use std::slice;
 
 /// One node of a lowered plan, which names its inputs and expressions by number. Contracts see it as a layer.
 #[derive(Default, Drop)]
 pub enum IR {
+    /// The input's frame, which is kept under the number and is to be read so many times.
+    Cache {
+        input: Node,
+        id: usize,
+        cache_hits: u32,
+    },
     /// A scan of a table by its number, or of the empty table.
     DataFrameScan {
         table: Option<u32>,
         schema: Schema,
+    },
+    /// The input's rows, of equal ones one or none.
+    Distinct {
+        input: Node,
+        options: DistinctOptionsIR,
     },
     /// The rows of a frame for which the predicate is true. The frame has the schema of the input's.
     Filter {
@@ -49,6 +64,11 @@ pub enum IR {
         schema: Schema,
         options: ProjectionOptions,
     },
+    /// What a function makes of the input's frame.
+    MapFunction {
+        input: Node,
+        function: FunctionIR,
+    },
     /// A frame of a column for each expression.
     Select {
         expr: ExprIRs,
@@ -61,9 +81,35 @@ pub enum IR {
         input: Node,
         columns: Schema,
     },
+    /// The input's frame, which is handed out.
+    Sink {
+        input: Node,
+        payload: SinkType,
+    },
+    /// So many rows from a place on, which an offset below 0 counts from the end.
+    Slice {
+        input: Node,
+        offset: i64,
+        len: u32,
+    },
+    /// The input's rows in the order of keys, with a flag for each, or one for all.
+    Sort {
+        input: Node,
+        by_column: ExprIRs,
+        sort_options: SortMultipleOptions,
+    },
     /// No plan: what is left where a node was taken out.
     #[default]
     Invalid,
+}
+
+// A copy of an item whose fields are copied as they are.
+macro_rules! same {
+    ($kind:ident, $($field:ident),*) => {
+        Ok(IR::$kind {
+            $($field: *$field),*
+        })
+    };
 }
 
 impl IR {
@@ -88,30 +134,28 @@ impl IR {
                 input,
                 schema,
                 options,
-            } => {
-                let (exprs, schema) = columns_copy(exprs, schema, alloc)?;
-                Ok(IR::HStack {
-                    exprs,
-                    input: *input,
-                    schema,
-                    options: *options,
-                })
-            }
+            } => hstack_copy(exprs, *input, schema, *options, alloc),
             IR::Select {
                 expr,
                 input,
                 schema,
                 options,
-            } => {
-                let (expr, schema) = columns_copy(expr, schema, alloc)?;
-                Ok(IR::Select {
-                    expr,
-                    input: *input,
-                    schema,
-                    options: *options,
-                })
-            }
+            } => select_copy(expr, *input, schema, *options, alloc),
             IR::SimpleProjection { input, columns } => projection_copy(*input, columns, alloc),
+            IR::Sort {
+                input,
+                by_column,
+                sort_options,
+            } => sort_copy(*input, by_column, sort_options, alloc),
+            IR::Distinct { input, options } => distinct_copy(*input, options, alloc),
+            IR::MapFunction { input, function } => function_copy(*input, function, alloc),
+            IR::Slice { input, offset, len } => same!(Slice, input, offset, len),
+            IR::Cache {
+                input,
+                id,
+                cache_hits,
+            } => same!(Cache, input, id, cache_hits),
+            IR::Sink { input, payload } => same!(Sink, input, payload),
             IR::Invalid => Ok(IR::Invalid),
         }
     }
@@ -121,12 +165,18 @@ impl IR {
         ensures { result.now ≡ node_name self.now }
     {
         match self {
+            IR::Cache { .. } => "cache",
             IR::DataFrameScan { .. } => "df",
+            IR::Distinct { .. } => "distinct",
             IR::Filter { .. } => "selection",
             IR::GroupBy { .. } => "aggregate",
             IR::HStack { .. } => "hstack",
+            IR::MapFunction { .. } => "map_function",
             IR::Select { .. } => "projection",
             IR::SimpleProjection { .. } => "simple_projection",
+            IR::Sink { .. } => "sink (memory)",
+            IR::Slice { .. } => "slice",
+            IR::Sort { .. } => "sort",
             IR::Invalid => "invalid",
         }
     }
@@ -163,9 +213,51 @@ impl IR {
         ensures rule { (expressions : List AExpr) (registry : Registry) (plan : Plan) →
             DenotesItem expressions arena.now self.now plan → IsAccepted registry plan → schema_of registry plan ≡ Some (columns result.now) }
     {
+        match self.kept_input() {
+            Some(input) => arena.get(input).schema_ref(arena),
+            None => self.recorded_schema(),
+        }
+    }
+
+    /// The input of a node that records no schema, since it keeps that of its input.
+    pub fn kept_input(&self) -> Option<Node>
+        ensures { MatchOption result (self.now ≢ IR.Invalid → IsTrue (is_some (op_of (plan_layer self.now)).recorded)) (λ input. KeepsInput (plan_layer self.now) input.0) }
+    {
         match self {
-            IR::Filter { input, .. } => arena.get(*input).schema_ref(arena),
-            _ => self.recorded_schema(),
+            IR::Cache { input, .. }
+            | IR::Distinct { input, .. }
+            | IR::Filter { input, .. }
+            | IR::MapFunction { input, .. }
+            | IR::Sink { input, .. }
+            | IR::Slice { input, .. }
+            | IR::Sort { input, .. } => Some(*input),
+            IR::DataFrameScan { .. }
+            | IR::GroupBy { .. }
+            | IR::HStack { .. }
+            | IR::Select { .. }
+            | IR::SimpleProjection { .. }
+            | IR::Invalid => None,
+        }
+    }
+
+    /// The expressions of the node, of a group-by its keys and its aggregates: the second list of any other is empty.
+    pub fn expressions(&self) -> (&[ExprIR], &[ExprIR])
+        ensures { map named_node result.0.now ++ map named_node result.1.now ≡ nodes_of (op_of (plan_layer self.now)).kind }
+    {
+        match self {
+            IR::Filter { predicate, .. } => (slice::from_ref(predicate), &[]),
+            IR::GroupBy { keys, aggs, .. } => (keys.items.as_slice(), aggs.items.as_slice()),
+            IR::HStack { exprs, .. } => (exprs.items.as_slice(), &[]),
+            IR::Select { expr, .. } => (expr.items.as_slice(), &[]),
+            IR::Sort { by_column, .. } => (by_column.items.as_slice(), &[]),
+            IR::Cache { .. }
+            | IR::DataFrameScan { .. }
+            | IR::Distinct { .. }
+            | IR::MapFunction { .. }
+            | IR::SimpleProjection { .. }
+            | IR::Sink { .. }
+            | IR::Slice { .. }
+            | IR::Invalid => (&[], &[]),
         }
     }
 
@@ -180,7 +272,14 @@ impl IR {
             | IR::HStack { schema, .. }
             | IR::Select { schema, .. } => schema,
             IR::SimpleProjection { columns, .. } => columns,
-            IR::Filter { .. } | IR::Invalid => unreachable!(),
+            IR::Cache { .. }
+            | IR::Distinct { .. }
+            | IR::Filter { .. }
+            | IR::MapFunction { .. }
+            | IR::Sink { .. }
+            | IR::Slice { .. }
+            | IR::Sort { .. }
+            | IR::Invalid => unreachable!(),
         }
     }
 }
@@ -244,6 +343,46 @@ fn columns_copy(
     Ok((exprs, schema))
 }
 
+fn hstack_copy(
+    exprs: &ExprIRs,
+    input: Node,
+    schema: &Schema,
+    options: ProjectionOptions,
+    alloc: Global,
+) -> Result<IR, PlanError>
+    ensures ok { IfOk result (λ copy. plan_layer copy ≡ plan_layer (IR.HStack exprs.now input schema.now options)) }
+    ensures options { IfOk result (λ copy. option_of copy ≡ option_of (IR.HStack exprs.now input schema.now options)) }
+    ensures err { IfErr result (λ error. error ≡ no_memory) }
+{
+    let (exprs, schema) = columns_copy(exprs, schema, alloc)?;
+    Ok(IR::HStack {
+        exprs,
+        input,
+        schema,
+        options,
+    })
+}
+
+fn select_copy(
+    expr: &ExprIRs,
+    input: Node,
+    schema: &Schema,
+    options: ProjectionOptions,
+    alloc: Global,
+) -> Result<IR, PlanError>
+    ensures ok { IfOk result (λ copy. plan_layer copy ≡ plan_layer (IR.Select expr.now input schema.now options)) }
+    ensures options { IfOk result (λ copy. option_of copy ≡ option_of (IR.Select expr.now input schema.now options)) }
+    ensures err { IfErr result (λ error. error ≡ no_memory) }
+{
+    let (expr, schema) = columns_copy(expr, schema, alloc)?;
+    Ok(IR::Select {
+        expr,
+        input,
+        schema,
+        options,
+    })
+}
+
 fn projection_copy(input: Node, columns: &Schema, alloc: Global) -> Result<IR, PlanError>
     ensures ok { IfOk result (λ copy. plan_layer copy ≡ plan_layer (IR.SimpleProjection input columns.now)) }
     ensures options { IfOk result (λ copy. option_of copy ≡ option_of (IR.SimpleProjection input columns.now)) }
@@ -251,4 +390,41 @@ fn projection_copy(input: Node, columns: &Schema, alloc: Global) -> Result<IR, P
 {
     let columns = columns.try_clone(alloc)?;
     Ok(IR::SimpleProjection { input, columns })
+}
+
+fn sort_copy(
+    input: Node,
+    by_column: &ExprIRs,
+    sort_options: &SortMultipleOptions,
+    alloc: Global,
+) -> Result<IR, PlanError>
+    ensures ok { IfOk result (λ copy. plan_layer copy ≡ plan_layer (IR.Sort input by_column.now sort_options.now)) }
+    ensures options { IfOk result (λ copy. option_of copy ≡ option_of (IR.Sort input by_column.now sort_options.now)) }
+    ensures err { IfErr result (λ error. error ≡ no_memory) }
+{
+    let by_column = by_column.try_clone(alloc)?;
+    let sort_options = sort_options.try_clone(alloc)?;
+    Ok(IR::Sort {
+        input,
+        by_column,
+        sort_options,
+    })
+}
+
+fn distinct_copy(input: Node, options: &DistinctOptionsIR, alloc: Global) -> Result<IR, PlanError>
+    ensures ok { IfOk result (λ copy. plan_layer copy ≡ plan_layer (IR.Distinct input options.now)) }
+    ensures options { IfOk result (λ copy. option_of copy ≡ option_of (IR.Distinct input options.now)) }
+    ensures err { IfErr result (λ error. error ≡ no_memory) }
+{
+    let options = options.try_clone(alloc)?;
+    Ok(IR::Distinct { input, options })
+}
+
+fn function_copy(input: Node, function: &FunctionIR, alloc: Global) -> Result<IR, PlanError>
+    ensures ok { IfOk result (λ copy. plan_layer copy ≡ plan_layer (IR.MapFunction input function.now)) }
+    ensures options { IfOk result (λ copy. option_of copy ≡ option_of (IR.MapFunction input function.now)) }
+    ensures err { IfErr result (λ error. error ≡ no_memory) }
+{
+    let function = function.try_clone(alloc)?;
+    Ok(IR::MapFunction { input, function })
 }

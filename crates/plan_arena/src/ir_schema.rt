@@ -60,11 +60,17 @@ impl IR {
         ensures { MatchOption result (inputs_of (plan_layer self.now) ≡ []) (λ first. slice_get (inputs_of (plan_layer self.now)) 0 ≡ Some first.0) }
     {
         match self {
-            IR::Filter { input, .. }
+            IR::Cache { input, .. }
+            | IR::Distinct { input, .. }
+            | IR::Filter { input, .. }
             | IR::GroupBy { input, .. }
             | IR::HStack { input, .. }
+            | IR::MapFunction { input, .. }
             | IR::Select { input, .. }
-            | IR::SimpleProjection { input, .. } => Some(*input),
+            | IR::SimpleProjection { input, .. }
+            | IR::Sink { input, .. }
+            | IR::Slice { input, .. }
+            | IR::Sort { input, .. } => Some(*input),
             IR::DataFrameScan { .. } | IR::Invalid => None,
         }
     }

@@ -1,13 +1,18 @@
 -- The tree of a plan.
 use Rattle.std.specs.Prelude.{◌≡◌, ℕ, ℤ, List, [], ◌∷◌, ◌++◌, map, Option, Some, None, Bool}
 use Rattle.std.specs.List.{flat_map}
+use Rattle.std.specs.Option.{option_map}
 use Rattle.plan_types.specs.Schemas.{Name, Columns, columns}
 use Rattle.plan_types.specs.declared.error.ErrorKind.{ErrorKind}
 use Rattle.plan_dsl.specs.declared.plan.DslPlan.{DslPlan}
-use Rattle.plan_dsl.specs.declared.plan.DslPlan.TheVariants.{DataFrameScan, Filter', GroupBy', HStack', MapFunction', Select'}
+use Rattle.plan_dsl.specs.declared.plan.DslPlan.TheVariants.{Cache', DataFrameScan, Distinct', Filter', GroupBy', HStack', MapFunction', Select', Sink', Slice', Sort'}
 use Rattle.plan_dsl.specs.declared.function.DslFunction.{DslFunction}
-use Rattle.plan_dsl.specs.declared.function.DslFunction.TheVariants.{Drop}
+use Rattle.plan_dsl.specs.declared.function.DslFunction.TheVariants.{Drop, FunctionIR as OfFunctionIR}
+use Rattle.plan_dsl.specs.declared.function.FunctionIR.{FunctionIR}
+use Rattle.plan_dsl.specs.declared.function.FunctionIR.TheVariants.{Rechunk}
+use Rattle.plan_dsl.specs.declared.sort_options.SortMultipleOptions.{SortMultipleOptions}
 use Rattle.plan_dsl.specs.declared.plan.ProjectionOptions.{ProjectionOptions}
+use Rattle.plan_dsl.specs.declared.distinct_options.ColumnNames.{ColumnNames}
 use Rattle.plan_dsl.specs.declared.distinct_options.UniqueKeepStrategy.{UniqueKeepStrategy}
 use Rattle.plan_dsl.specs.Aliases.{core}
 use Rattle.plan_dsl.specs.Trees.{Tree, node, no_more, more, children_from, fold}
@@ -130,7 +135,7 @@ simple_projection_op columns recorded = over_op (SimpleProjectionWork columns) [
 abbrev pub drop_op : {E : Type 0} → List E → Bool → PlanOp E
 drop_op selectors strict = over_op (DropWork strict) (selectors ∷ []) None
 
--- a node over one input in a query: a select, an hstack, a group-by, a filter and a drop
+-- a node over one input in a query, and one of each kind
 abbrev pub source_over : Work → List (List Source) → SourcePlan → SourcePlan
 source_over work lists input = node (over_op work lists None) (more input no_more)
 
@@ -148,6 +153,41 @@ source_filter source input = source_over FilterWork ((source ∷ []) ∷ []) inp
 
 abbrev pub source_drop : List Source → Bool → SourcePlan → SourcePlan
 source_drop selectors strict input = source_over (DropWork strict) (selectors ∷ []) input
+
+-- flags, by which columns descend and have their nulls last
+abbrev pub sort_work : SortMultipleOptions → Work
+sort_work options = SortWork options.descending.items.value.items options.nulls_last.items.value.items
+
+abbrev pub source_sort : List Source → SortMultipleOptions → SourcePlan → SourcePlan
+source_sort by options input = source_over (sort_work options) (by ∷ []) input
+
+-- selectors, if there are some, as the only list
+abbrev pub subset_lists : Option (List Source) → List (List Source)
+subset_lists None = []
+subset_lists (Some selectors) = selectors ∷ []
+
+-- the names of columns, if there are some
+abbrev pub column_names : Option ColumnNames → Option (List Name)
+column_names names = option_map (λ some. some.items.items) names
+
+abbrev pub source_distinct : UniqueKeepStrategy → Option (List Source) → SourcePlan → SourcePlan
+source_distinct keep subset input = source_over (DistinctWork keep None) (subset_lists subset) input
+
+abbrev pub source_slice : ℤ → ℕ → SourcePlan → SourcePlan
+source_slice offset count input = source_over (SliceWork offset count) [] input
+
+abbrev pub source_pass : Passing → SourcePlan → SourcePlan
+source_pass passing input = source_over (PassWork passing) [] input
+
+abbrev pub source_cache : ℕ → SourcePlan → SourcePlan
+source_cache id input = source_pass (CachePass id) input
+
+abbrev pub source_sink : SourcePlan → SourcePlan
+source_sink input = source_pass SinkPass input
+
+-- what a function over a frame whose columns are known by name does
+abbrev pub function_work : FunctionIR → Work
+function_work Rechunk = PassWork RechunkPass
 
 -- a call of a function in a query
 abbrev pub source_call : FunctionExpr → List Source → Source
@@ -171,6 +211,7 @@ nulls_filled value = source_call FillNull (any_column ∷ value ∷ [])
 -- a function over a plan
 abbrev pub source_function : DslFunction → SourcePlan → SourcePlan
 source_function (Drop function) input = source_drop (selector_trees function.to_drop) function.strict input
+source_function (OfFunctionIR function) input = source_over (function_work function) [] input
 
 -- two functions do the same over every plan
 abbrev pub IsSameFunction : DslFunction → DslFunction → Type 0
@@ -184,6 +225,11 @@ plan_tree (HStack' exprs p input options) = source_hstack (trees_of exprs) (plan
 plan_tree (GroupBy' p input keys aggs maintain_order) = source_group_by (trees_of keys) (trees_of aggs) (plan_tree input)
 plan_tree (Filter' p input predicate) = source_filter (tree_of predicate) (plan_tree input)
 plan_tree (MapFunction' p input function) = source_function function (plan_tree input)
+plan_tree (Sort' p input by_column sort_options) = source_sort (trees_of by_column) sort_options (plan_tree input)
+plan_tree (Distinct' p input options) = source_distinct options.keep_strategy (option_map selector_trees options.subset) (plan_tree input)
+plan_tree (Slice' p input offset len) = source_slice offset len (plan_tree input)
+plan_tree (Cache' p input id) = source_cache id (plan_tree input)
+plan_tree (Sink' p input payload) = source_sink (plan_tree input)
 
 -- a scan of a table: the table's number, and the schema that it is to have
 pub record Scan : Type 0 where
@@ -199,10 +245,16 @@ own_scans kind = []
 abbrev pub scans_in : {E : Type 0} → Tree (PlanOp E) → List Scan
 scans_in plan = fold (λ op below. own_scans op.kind ++ flat_map (λ scans. scans) below) plan
 
--- an option of a node: those of a select and of an hstack, and whether a group-by keeps the order of its groups
+-- an option of a node: those of a select and of an hstack, whether a group-by or a distinct keeps the order of rows, and how
+-- often a cache is to be read
 pub data PlanOption : Type 0 where
   ProjectionOption : (options : ProjectionOptions) → PlanOption
   OrderOption : (maintain_order : Bool) → PlanOption
+  HitsOption : (hits : ℕ) → PlanOption
+
+-- how often a query's cache is to be read: it doesn't tell, and so no number is greater
+abbrev pub unknown_hits : ℕ
+unknown_hits = 4294967295
 
 -- the options of a plan's nodes, from the top down: its tree has none of them, since they mean nothing
 abbrev pub options_in : DslPlan → List PlanOption
@@ -212,6 +264,11 @@ options_in (HStack' exprs p input options) = ProjectionOption options ∷ option
 options_in (GroupBy' p input keys aggs maintain_order) = OrderOption maintain_order ∷ options_in input
 options_in (Filter' p input predicate) = options_in input
 options_in (MapFunction' p input function) = options_in input
+options_in (Sort' p input by_column sort_options) = options_in input
+options_in (Distinct' p input options) = OrderOption options.maintain_order ∷ options_in input
+options_in (Slice' p input offset len) = options_in input
+options_in (Cache' p input id) = HitsOption unknown_hits ∷ options_in input
+options_in (Sink' p input payload) = options_in input
 
 -- the empty table without columns
 abbrev pub empty_table : {E : Type 0} → Tree (PlanOp E)

@@ -3,15 +3,17 @@ ghost use Rattle.std.specs.Prelude.{◌≡◌, ◌<◌, [], ◌∷◌, map, vec_
 ghost use Rattle.std.specs.Option.{option_map};
 ghost use Rattle.plan_types.specs.Errors.{no_memory};
 ghost use Rattle.plan_types.specs.Schemas.{columns};
-ghost use Rattle.plan_dsl.specs.Expressions.{selector_tree, tree_of};
-ghost use Rattle.plan_dsl.specs.Plans.{OrderOption, ProjectionOption, all_known_values, any_column, is_known_value, nulls_filled, source_call, plan_tree, options_in, scan_op, source_drop, source_filter, source_group_by, source_hstack, source_select};
+ghost use Rattle.plan_dsl.specs.Expressions.{selector_tree, selector_trees, tree_of};
+ghost use Rattle.plan_dsl.specs.Plans.{HitsOption, OrderOption, ProjectionOption, all_known_values, any_column, is_known_value, nulls_filled, source_call, plan_tree, options_in, scan_op, source_cache, source_distinct, source_drop, source_filter, source_function, source_group_by, source_hstack, source_select, source_slice, source_sort, unknown_hits};
 ghost use Rattle.plan_dsl.specs.Trees.{node, no_more};
 
+use crate::distinct_options::DistinctOptionsDSL;
 use crate::expr::{Expr, Exprs};
 use crate::function::{DropFunction, DslFunction};
 use crate::function_expr::FunctionExpr;
 use crate::plan::{DslPlan, ProjectionOptions};
 use crate::selector::{Selector, Selectors};
+use crate::sort_options::SortMultipleOptions;
 use plan_types::error::PlanError;
 use plan_types::schema::Schema;
 use std::alloc::Global;
@@ -161,6 +163,70 @@ impl DslBuilder {
                 Err(error)
             }
         }
+    }
+
+    /// The rows in the order of the expressions, which stand for keys. There is a flag for each expression, for each name of
+    /// `Columns` that stands alone, or one for all.
+    pub fn sort(
+        self,
+        alloc: Global,
+        by_column: Vec<Expr>,
+        sort_options: SortMultipleOptions,
+    ) -> Result<DslBuilder, PlanError>
+        ensures ok { IfOk result (λ built. plan_tree built.0 ≡ source_sort (map tree_of by_column.items) sort_options (plan_tree self.0)) }
+        ensures options { IfOk result (λ built. options_in built.0 ≡ options_in self.0) }
+        ensures err { IfErr result (λ error. error ≡ no_memory) }
+    {
+        let input = Box::new(alloc, self.0)?;
+        Ok(DslBuilder(DslPlan::Sort {
+            input,
+            by_column: Exprs { items: by_column },
+            sort_options,
+        }))
+    }
+
+    /// The rows, of equal ones one or none.
+    pub fn distinct(
+        self,
+        alloc: Global,
+        options: DistinctOptionsDSL,
+    ) -> Result<DslBuilder, PlanError>
+        ensures ok { IfOk result (λ built. plan_tree built.0 ≡ source_distinct options.keep_strategy (option_map selector_trees options.subset) (plan_tree self.0)) }
+        ensures options { IfOk result (λ built. options_in built.0 ≡ OrderOption options.maintain_order ∷ options_in self.0) }
+        ensures err { IfErr result (λ error. error ≡ no_memory) }
+    {
+        let input = Box::new(alloc, self.0)?;
+        Ok(DslBuilder(DslPlan::Distinct { input, options }))
+    }
+
+    /// So many rows from a place on, which an offset below 0 counts from the end.
+    pub fn slice(self, alloc: Global, offset: i64, len: u32) -> Result<DslBuilder, PlanError>
+        ensures ok { IfOk result (λ built. plan_tree built.0 ≡ source_slice offset len (plan_tree self.0)) }
+        ensures options { IfOk result (λ built. options_in built.0 ≡ options_in self.0) }
+        ensures err { IfErr result (λ error. error ≡ no_memory) }
+    {
+        let input = Box::new(alloc, self.0)?;
+        Ok(DslBuilder(DslPlan::Slice { input, offset, len }))
+    }
+
+    /// The plan's frame, kept under the number.
+    pub fn cache(self, alloc: Global, id: usize) -> Result<DslBuilder, PlanError>
+        ensures ok { IfOk result (λ built. plan_tree built.0 ≡ source_cache id (plan_tree self.0)) }
+        ensures options { IfOk result (λ built. options_in built.0 ≡ HitsOption unknown_hits ∷ options_in self.0) }
+        ensures err { IfErr result (λ error. error ≡ no_memory) }
+    {
+        let input = Box::new(alloc, self.0)?;
+        Ok(DslBuilder(DslPlan::Cache { input, id }))
+    }
+
+    /// What a function makes of the plan's frame.
+    pub fn map_private(self, alloc: Global, function: DslFunction) -> Result<DslBuilder, PlanError>
+        ensures ok { IfOk result (λ built. plan_tree built.0 ≡ source_function function (plan_tree self.0)) }
+        ensures options { IfOk result (λ built. options_in built.0 ≡ options_in self.0) }
+        ensures err { IfErr result (λ error. error ≡ no_memory) }
+    {
+        let input = Box::new(alloc, self.0)?;
+        Ok(DslBuilder(DslPlan::MapFunction { input, function }))
     }
 
     /// Without the columns that the selectors name. Where it is strict, each of them must stand.

@@ -29,11 +29,41 @@ impl DropFunction {
     }
 }
 
+/// A function from a frame to a frame, whose columns are known by name.
+#[derive(Drop, PartialEq, Eq, Hash)]
+pub enum FunctionIR {
+    /// The frame, laid anew in memory.
+    Rechunk,
+}
+
+impl FunctionIR {
+    pub fn try_clone(&self, _alloc: Global) -> Result<FunctionIR, PlanError>
+        ensures ok { IfOk result (λ copy. copy ≡ self.now) }
+        ensures err { IfErr result (λ error. error ≡ no_memory) }
+    {
+        match self {
+            FunctionIR::Rechunk => Ok(FunctionIR::Rechunk),
+        }
+    }
+}
+
 /// A function from a frame to a frame.
 #[derive(Drop)]
 pub enum DslFunction {
     /// The frame without some columns.
     Drop(DropFunction),
+    FunctionIR(FunctionIR),
+}
+
+impl From<FunctionIR> for DslFunction {
+    ghost use Rattle.std.specs.Prelude.{◌≡◌};
+    ghost use Rattle.plan_dsl.specs.declared.function.DslFunction.TheVariants.{FunctionIR as OfFunctionIR};
+
+    ghost from_gives = { λ function own. own ≡ OfFunctionIR function };
+
+    fn from(function: FunctionIR) -> Self {
+        DslFunction::FunctionIR(function)
+    }
 }
 
 impl DslFunction {
@@ -43,6 +73,9 @@ impl DslFunction {
     {
         match self {
             DslFunction::Drop(function) => Ok(DslFunction::Drop(function.try_clone(alloc)?)),
+            DslFunction::FunctionIR(function) => {
+                Ok(DslFunction::FunctionIR(function.try_clone(alloc)?))
+            }
         }
     }
 }

@@ -1,7 +1,7 @@
 -- What is read fits what was asked, and what a key or a list of places asks.
 use Rattle.plan_json.proofs.Names.{List, Option, Some, [], ap, length, map, option_and_then, option_map, refl, subst, suc, sym, true, ℕ, ◌∙◌, ◌∷◌, ◌≡◌, ◌&&◌, arith, take, zero, Data, Items, array, item, member, no_items, no_members, object, as_null, text_of, type_of, columns_of, table_at, operator_of, mode_of, Declared, AllFit, Asked, Fits, Read, a_form, all_fit, asked_in, asks, columns_read, expression, expression_read, expression_rows, expression_says, fits, flag_read, key_named, leaf, list_read, literal_read, many, mode_read, name_read, nothing_read, operator_read, place_view, places_view, plan_rows, reads_of, row_named, says, table_read, type_read, each_as, leaf_of, list_as, places_as, read_as, these_as, Kind, Key, same_Some}
-use Rattle.plan_json.specs.Forms.{Reads, excluded_read, function_read, index_read, kind_of, listed_leaf, method_read, no_order, optional, order, order_items, order_says, plan_read, plan_says, selector, selector_read, selector_rows, selector_says}
-use Rattle.plan_json.specs.Leaves.{excluded_item, function_of, index_of, literal_written, method_of}
+use Rattle.plan_json.specs.Forms.{Reads, excluded_read, function_read, index_read, keep_read, kind_of, listed_leaf, method_read, natural_read, no_order, optional, order, order_items, order_says, plan_read, plan_says, selector, selector_read, selector_rows, selector_says}
+use Rattle.plan_json.specs.Leaves.{excluded_item, function_of, index_of, keep_of, natural_of, literal_written, method_of}
 use Rattle.plan_json.specs.declared.forms.Kind.TheVariants as kinds
 use Rattle.plan_json.specs.declared.forms.Key.TheVariants as keys
 use Rattle.plan_json.specs.declared.forms.Leaf.{Leaf}
@@ -37,6 +37,8 @@ leaf_fits tables (leaves.Small smalls.Mode) d r e = made_fits (leaf (leaves.Smal
 leaf_fits tables (leaves.Small smalls.Nothing) d r e = made_fits (leaf (leaves.Small smalls.Nothing)) (λ none. nothing_read) (λ x. refl) (as_null d) r e
 leaf_fits tables (leaves.Small smalls.Flag) d r e = made_fits (leaf (leaves.Small smalls.Flag)) flag_read (λ x. refl) (as_bool d) r e
 leaf_fits tables (leaves.Small smalls.Index) d r e = made_fits (leaf (leaves.Small smalls.Index)) index_read (λ x. refl) (index_of d) r e
+leaf_fits tables (leaves.Small smalls.Natural) d r e = made_fits (leaf (leaves.Small smalls.Natural)) natural_read (λ x. refl) (natural_of d) r e
+leaf_fits tables (leaves.Small smalls.Keep) d r e = made_fits (leaf (leaves.Small smalls.Keep)) keep_read (λ x. refl) (keep_of d) r e
 
 said_fits : (key : Key) (rs : List Read) (r : Read) → says key rs ≡ Some r → Fits (a_form (kind_of key)) r
 said_fits (keys.Expression key) rs r e = made_fits expression expression_read (λ x. refl) (expression_says key rs) r e
@@ -85,11 +87,12 @@ leaves_fit tables lists.Flag = many_fits tables (leaf (leaves.Small smalls.Flag)
 leaves_fit tables lists.Index = many_fits tables (leaf (leaves.Small smalls.Index)) (λ rs. refl) (leaf_fits tables (leaves.Small smalls.Index))
 leaves_fit tables lists.Excluded = many_fits tables (leaf leaves.Excluded) (λ rs. refl) (leaf_fits tables leaves.Excluded)
 
-optional_fits : (tables : Declared) (d : Data) (r : Read) → read_as tables optional d ≡ Some r → Fits optional r
-optional_fits tables (array ds) r e =
-    let rs = mapped (λ xs. list_read expression (reads_of xs)) (each_as tables expression ds) r e in
-    record { fit = subst (λ x. fits optional x ≡ true) rs.2 (each_fits tables expression (form_fits tables kinds.Expression) ds rs.0 rs.1) }
-optional_fits tables d r e = made_fits optional (λ none. nothing_read) (λ x. refl) (as_null d) r e
+optional_fits : (tables : Declared) (a : Asked) → ((rs : Reads) → fits (optional a) (list_read a rs) ≡ all_fit a rs) → ((d : Data) (r : Read) → read_as tables a d ≡ Some r → Fits a r)
+    → (d : Data) (r : Read) → read_as tables (optional a) d ≡ Some r → Fits (optional a) r
+optional_fits tables a of each (array ds) r e =
+    let rs = mapped (λ xs. list_read a (reads_of xs)) (each_as tables a ds) r e in
+    record { fit = subst (λ x. fits (optional a) x ≡ true) rs.2 (of (reads_of rs.0) ∙ each_fits tables a each ds rs.0 rs.1) }
+optional_fits tables a of each d r e = made_fits (optional a) (λ none. nothing_read) (λ x. refl) (as_null d) r e
 
 -- ---- places
 
@@ -99,7 +102,8 @@ place_fits tables (places.Leaf which) = leaf_fits tables which
 place_fits tables places.Expressions = many_fits tables expression (λ rs. refl) (form_fits tables kinds.Expression)
 place_fits tables places.Selectors = many_fits tables selector (λ rs. refl) (form_fits tables kinds.Selector)
 place_fits tables places.Order = order_fits tables
-place_fits tables places.Optional = optional_fits tables
+place_fits tables places.OptionalExpressions = optional_fits tables expression (λ rs. refl) (form_fits tables kinds.Expression)
+place_fits tables places.OptionalSelectors = optional_fits tables selector (λ rs. refl) (form_fits tables kinds.Selector)
 place_fits tables (places.Leaves which) = leaves_fit tables which
 
 these_fit : (tables : Declared) (ps : List Place) (ds : Items) (rs : List Read) → these_as tables (map place_view ps) ds ≡ Some rs → AllFit (map place_view ps) rs

@@ -5,11 +5,13 @@ use Rattle.plan_dsl.specs.Expressions.{excluded_of}
 use Rattle.plan_dsl.specs.Sources.{Plain, Source}
 use Rattle.plan_dsl.specs.declared.marker.Excluded.{Excluded}
 use Rattle.plan_types.specs.declared.dtype.DataType.{DataType}
-use Rattle.plan_json.specs.Forms.{excluded_in, excluded_read, function_read, index_read, indexes_in, names_in, expression, optional, order, order_items, order_read, order_says, selector_read, selectors_in, types_in}
+use Rattle.plan_json.specs.Forms.{excluded_in, excluded_read, function_read, index_read, indexes_in, keep_read, names_in, optional, plan_read, plan_says, subset_read, order, order_items, order_read, order_says, selector_read, selectors_in, types_in}
 use Rattle.plan_json.specs.Queries.{has_flags, list_as}
-use Rattle.plan_dsl.specs.Plans.{OrderOption, PlanOption, ProjectionOption, options_in}
+use Rattle.plan_dsl.specs.Plans.{HitsOption, OrderOption, PlanOption, ProjectionOption, SourcePlan, options_in, source_distinct}
+use Rattle.plan_dsl.specs.declared.distinct_options.UniqueKeepStrategy.{UniqueKeepStrategy}
+use Rattle.plan_json.specs.declared.forms.PlanKey.TheVariants as by
 use Rattle.plan_dsl.specs.declared.plan.DslPlan.{DslPlan}
-use Rattle.plan_dsl.specs.declared.plan.DslPlan.TheVariants.{DataFrameScan, Filter', GroupBy', HStack', MapFunction', Select'}
+use Rattle.plan_dsl.specs.declared.plan.DslPlan.TheVariants.{Cache', DataFrameScan, Distinct', Filter', GroupBy', HStack', MapFunction', Select', Sink', Slice', Sort'}
 use Rattle.plan_dsl.specs.Expressions.{function_source, order_trees, way_of}
 use Rattle.plan_dsl.specs.Ops.{WindowOp}
 use Rattle.plan_dsl.specs.declared.function_expr.FunctionExpr.{FunctionExpr}
@@ -70,9 +72,15 @@ pub selectors_read : (trees : List Source) → selectors_in (reads_of (map selec
 selectors_read [] = refl
 selectors_read (tree ∷ trees) = ap (λ l. tree ∷ l) (selectors_read trees)
 
-flags_read : (flags : List Bool) → flags_in (reads_of (map flag_read flags)) ≡ flags
+pub flags_read : (flags : List Bool) → flags_in (reads_of (map flag_read flags)) ≡ flags
 flags_read [] = refl
 flags_read (flag ∷ flags) = ap (λ l. flag ∷ l) (flags_read flags)
+
+-- a distinct by the selectors that were read, if there are some
+pub distinct_said : (input : SourcePlan) (subset : Option (List Source)) (keep : UniqueKeepStrategy)
+    → plan_says by.Distinct (plan_read input ∷ subset_read subset ∷ keep_read keep ∷ []) ≡ Some (source_distinct keep subset input)
+distinct_said input None keep = refl
+distinct_said input (Some trees) keep = ap (λ l. Some (source_distinct keep (Some l) input)) (selectors_read trees)
 
 pub names_read : (names : List Name) → names_in (reads_of (map name_read names)) ≡ names
 names_read [] = refl
@@ -130,21 +138,21 @@ order_error names d error none bad =
     (λ kind h. ap (λ o. unless (shape_fault d) (is_some {T = Unit {0}} o || is_list (λ items. items_len items == length order_items) d)) (sym none) ∙ h)
     (order_parts names d) error bad
 
--- a list of expressions where there may be none
-pub optional_listed : (tables : Declared) (d : Data) (r : Read) → read_as tables (many expression) d ≡ Some r → read_as tables optional d ≡ Some r
-optional_listed tables (array ds) r read = read
-optional_listed tables _ r read = cc
+-- a list where there may be none
+pub optional_listed : (tables : Declared) (a : Asked) (d : Data) (r : Read) → read_as tables (many a) d ≡ Some r → read_as tables (optional a) d ≡ Some r
+optional_listed tables a (array ds) r read = read
+optional_listed tables a _ r read = cc
 
 -- an error of that list is one of what may be none
-optional_parts : (names : List Name) (d : Data) (step : Step) → part_of (list_of names expression) step d ≡ part_of (optional_form names) step d
-optional_parts names d (key word) = refl
-optional_parts names d (number n) = refl
+optional_parts : (names : List Name) (a : Asked) (d : Data) (step : Step) → part_of (list_of names a) step d ≡ part_of (optional_form names a) step d
+optional_parts names a d (key word) = refl
+optional_parts names a d (number n) = refl
 
-pub optional_error : (names : List Name) (d : Data) (error : JsonError) → None ≡ as_null d → IsErrorOf (list_of names expression) d error → IsErrorOf (optional_form names) d error
-optional_error names d error none bad =
-    stricter_error (list_of names expression) (optional_form names) d
+pub optional_error : (names : List Name) (a : Asked) (d : Data) (error : JsonError) → None ≡ as_null d → IsErrorOf (list_of names a) d error → IsErrorOf (optional_form names a) d error
+optional_error names a d error none bad =
+    stricter_error (list_of names a) (optional_form names a) d
     (λ kind h. ap (λ o. unless (shape_fault d) (is_some {T = Unit {0}} o || is_list (λ items. true) d)) (sym none) ∙ h)
-    (optional_parts names d) error bad
+    (optional_parts names a d) error bad
 
 -- ---- a form by its key
 
@@ -216,6 +224,7 @@ each_read tables a d ds rs is read =
 abbrev sets : PlanOption → Bool
 sets (ProjectionOption options) = options.duplicate_check
 sets (OrderOption maintain_order) = maintain_order
+sets (HitsOption hits) = false
 
 abbrev any_sets : List PlanOption → Bool
 any_sets [] = false
@@ -228,6 +237,11 @@ flags_in_options (HStack' exprs p input options) = ap (λ b. options.duplicate_c
 flags_in_options (GroupBy' p input keys aggs maintain_order) = ap (λ b. maintain_order || b) (flags_in_options input)
 flags_in_options (Filter' p input predicate) = flags_in_options input
 flags_in_options (MapFunction' p input function) = flags_in_options input
+flags_in_options (Sort' p input by_column sort_options) = flags_in_options input
+flags_in_options (Distinct' p input options) = ap (λ b. options.maintain_order || b) (flags_in_options input)
+flags_in_options (Slice' p input offset len) = flags_in_options input
+flags_in_options (Cache' p input id) = flags_in_options input
+flags_in_options (Sink' p input payload) = flags_in_options input
 
 -- a plan with the options of another, and with one more that isn't set, has no flags where that has none
 pub same_flags : (plan other : DslPlan) → options_in other ≡ options_in plan → has_flags plan ≡ false → has_flags other ≡ false

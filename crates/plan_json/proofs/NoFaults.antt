@@ -5,7 +5,7 @@ use Rattle.plan_json.specs.declared.forms.TypeKey.TheVariants as types
 use Rattle.plan_json.specs.declared.forms.ExcludedKey.{ExcludedKey}
 use Rattle.plan_json.specs.declared.forms.ExcludedKey.TheVariants as excludes
 use Rattle.plan_dsl.specs.Sources.{Excluded, ExcludedName, ExcludedType}
-use Rattle.plan_json.specs.Forms.{excluded_read, excluded_rows, expression, many_read, optional, order, order_items, order_says}
+use Rattle.plan_json.specs.Forms.{excluded_read, excluded_rows, optional, order, order_items, order_says}
 use Rattle.plan_json.specs.Faults.{item_part, optional_form, order_form}
 use Rattle.serde_json.specs.Data.{null}
 use Rattle.plan_json.specs.Leaves.{excluded_item, keyed_excluded}
@@ -36,7 +36,7 @@ IsOf (keyed_form names kind) d = (r : (tables : Declared) × (names_of tables �
 IsOf (list_of names a) d = (r : (tables : Declared) × (names_of tables ≡ names) × Read) × (read_as r.0 (many a) d ≡ Some r.2)
 IsOf (items_of names ps) d = (r : (tables : Declared) × (names_of tables ≡ names) × List Read) × (list_as r.0 ps d ≡ Some r.2)
 IsOf (order_form names) d = (r : (tables : Declared) × (names_of tables ≡ names) × Read) × (read_as r.0 order d ≡ Some r.2)
-IsOf (optional_form names) d = (r : (tables : Declared) × (names_of tables ≡ names) × Read) × (read_as r.0 optional d ≡ Some r.2)
+IsOf (optional_form names a) d = (r : (tables : Declared) × (names_of tables ≡ names) × Read) × (read_as r.0 (optional a) d ≡ Some r.2)
 IsOf form d = Unit {0} × (has_shape form d ≡ true)
 
 abbrev Holds : Part → Type 0
@@ -95,8 +95,8 @@ shape (items_of names ps) (array ds) ((tables, same, rs), e) = eq-eqb _ _ (these
 shape (order_form names) null h = refl
 shape (order_form names) (array ds) ((tables, same, r), e) =
     let rs = chained order_says (these_as tables order_items ds) r e in eq-eqb _ _ (these_count tables order_items ds rs.0 rs.1)
-shape (optional_form names) null h = refl
-shape (optional_form names) (array ds) h = refl
+shape (optional_form names a) null h = refl
+shape (optional_form names a) (array ds) h = refl
 shape _ _ (x, e) = cc
 
 own : (form : Form) (d : Data) → IsOf form d → own_fault form d ≡ None
@@ -198,9 +198,9 @@ parts (list_of names a) (number n) (array ds) ((tables, same, r), e) p here =
 parts (items_of names ps) (number n) (array ds) ((tables, same, rs), e) p here = these_hold names tables same ps ds rs e n p here
 parts (order_form names) (number n) (array ds) ((tables, same, r), e) p here =
     let rs = chained order_says (these_as tables order_items ds) r e in these_hold names tables same order_items ds rs.0 rs.1 n p here
-parts (optional_form names) (number n) (array ds) ((tables, same, r), e) p here =
-    let rs = mapped (λ xs. many_read (reads_of xs)) (each_as tables expression ds) r e in
-    item_holds (asked_form names expression) (read_as tables expression) ds rs.0 n p (sym (each_as-all_of tables expression ds) ∙ rs.1) (asked_is names tables same expression) here
+parts (optional_form names a) (number n) (array ds) ((tables, same, r), e) p here =
+    let rs = mapped (λ xs. list_read a (reads_of xs)) (each_as tables a ds) r e in
+    item_holds (asked_form names a) (read_as tables a) ds rs.0 n p (sym (each_as-all_of tables a ds) ∙ rs.1) (asked_is names tables same a) here
 parts a_query (key word) d (q, e) p here =
     let pair = chained query_from (two_members (codes "tables") (codes "plan") d) q e in
     let tables = chained (λ ts. option_map (λ tree. record { tables = ts; plan = tree }) (plan_of ts pair.0.1)) (tables_of pair.0.0) q pair.2 in

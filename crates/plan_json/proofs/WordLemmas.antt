@@ -1,9 +1,7 @@
 -- What is read from a word is called by it.
 use Rattle.std.proofs.Common.{refl}
 use Rattle.plan_dsl.specs.Words.{function_name, method_name}
-use Rattle.plan_dsl.specs.declared.aggregate.GroupByMethod.{GroupByMethod}
 use Rattle.plan_dsl.specs.declared.aggregate.GroupByMethod.TheVariants.{Min, Max, NUnique, First, Last, Implode, Sum, Count, Groups}
-use Rattle.plan_dsl.specs.declared.function_expr.FunctionExpr.{FunctionExpr}
 use Rattle.plan_dsl.specs.declared.function_expr.FunctionExpr.TheVariants.{AllHorizontal, AnyHorizontal, IsNull, IsNotNull, FillNull, IsIn, ShiftAndFill, ListGet}
 use Rattle.plan_json.proofs.Names.{List, None, Option, Some, ap, bytes_eq, bytes_eq-Decides, cond, false, same_Some, sym, true, ℕ, ◌∙◌, ◌≡◌}
 use Rattle.plan_json.specs.Leaves.{count_named, function_named, method_named, value_named}

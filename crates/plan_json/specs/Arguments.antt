@@ -6,10 +6,10 @@ use Rattle.plan_dsl.specs.Expressions.{excluded_of, order_trees, selector_tree, 
 use Rattle.plan_dsl.specs.Literals.{literal_op}
 use Rattle.plan_dsl.specs.Plans.{plan_tree}
 use Rattle.plan_dsl.specs.declared.plan.DslPlan.{DslPlan}
-use Rattle.plan_json.specs.Forms.{Read, name_read, literal_read, operator_read, method_read, function_read, type_read, mode_read, table_read, columns_read, expression_read, selector_read, plan_read, many_read, chosen_read, leaves_read, reads_of, other_read, nothing_read, flag_read, index_read, excluded_read, order_read}
+use Rattle.plan_json.specs.Forms.{Read, name_read, literal_read, operator_read, method_read, function_read, type_read, mode_read, table_read, columns_read, expression_read, selector_read, plan_read, many_read, chosen_read, leaves_read, reads_of, other_read, nothing_read, flag_read, index_read, natural_read, keep_read, excluded_read, order_read}
 use Rattle.plan_json.specs.Queries.{has_flags}
 use Rattle.plan_json.specs.declared.arguments.Arg.{Arg}
-use Rattle.plan_json.specs.declared.arguments.Arg.TheVariants.{Name, Literal, Operator, Method, Function, Dtype, Mode, Table, Columns, Nothing, Flag, Index, Excluded, Order, Expression, Selector, Plan, Expressions, Selectors, Names, Dtypes, Flags, Indexes, AllExcluded}
+use Rattle.plan_json.specs.declared.arguments.Arg.TheVariants.{Name, Literal, Operator, Method, Function, Dtype, Mode, Table, Columns, Nothing, Flag, Index, Natural, Keep, Excluded, Order, Expression, Selector, Plan, Expressions, Selectors, Names, Dtypes, Flags, Indexes, AllExcluded}
 use Rattle.plan_json.specs.declared.arguments.Items.{Items}
 use Rattle.plan_json.specs.declared.forms.Leaf.TheVariants as leaves
 use Rattle.plan_json.specs.declared.forms.SmallLeaf.TheVariants as smalls
@@ -32,6 +32,8 @@ arg_view (Columns schema) = columns_read (columns schema.value)
 arg_view Nothing = nothing_read
 arg_view (Flag flag) = flag_read flag
 arg_view (Index index) = index_read index
+arg_view (Natural natural) = natural_read natural
+arg_view (Keep keep) = keep_read keep
 arg_view (Excluded excluded) = excluded_read (excluded_of excluded.value)
 arg_view (Order order) = order_read (way_of order) (order_trees order)
 arg_view (Expression expr) = expression_read (tree_of expr.value)

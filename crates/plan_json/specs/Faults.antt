@@ -9,8 +9,8 @@ use Rattle.serde_json.specs.Events.{items_len}
 use Rattle.serde_json.specs.Find.{as_str, as_array, as_bool, as_null, at, get_item}
 use Rattle.plan_types.specs.Schemas.{Name, is_among, repeats}
 use Rattle.plan_types.specs.Types.{Ty, is_counted}
-use Rattle.plan_json.specs.Forms.{Asked, a_form, leaf, many, order, optional, order_items, expression, Places, single, listed, asks, key_named, row_named, type_rows, excluded_rows}
-use Rattle.plan_json.specs.Leaves.{index_of, text_of, type_named, type_of, unit_of, literal_of, number_text_of, counted_of, number_of, operator_of, method_of, function_of, mode_of, column_name, table_name, table_limit}
+use Rattle.plan_json.specs.Forms.{Asked, a_form, leaf, many, order, optional, order_items, Places, single, listed, asks, key_named, row_named, type_rows, excluded_rows}
+use Rattle.plan_json.specs.Leaves.{index_of, keep_of, natural_of, text_of, type_named, type_of, unit_of, literal_of, number_text_of, counted_of, number_of, operator_of, method_of, function_of, mode_of, column_name, table_name, table_limit}
 use Rattle.plan_json.specs.Looking.{both, is_float, only_member, two_members, two_items, some_of, first_items}
 use Rattle.plan_json.specs.declared.forms.Kind.{Kind}
 use Rattle.plan_json.specs.declared.forms.Kind.TheVariants as kinds
@@ -48,7 +48,7 @@ Path = List Step
 pub data Form : Type 0 where
   a_query table_list column_list field_list a_column a_type a_unit a_text : Form
   a_table a_new_name a_scan : List Name → Form
-  a_literal a_number_text a_typed_literal a_counted_type an_operator a_method a_function a_mode nothing_form flag_form an_index an_excluded : Form
+  a_literal a_number_text a_typed_literal a_counted_type an_operator a_method a_function a_mode nothing_form flag_form an_index a_natural a_keep an_excluded : Form
   a_number_of : Ty → Form
   -- an object of one key, which names a form of the kind
   keyed_form : List Name → Kind → Form
@@ -58,8 +58,8 @@ pub data Form : Type 0 where
   items_of : List Name → List Asked → Form
   -- null, or a list of an expression and two flags
   order_form : List Name → Form
-  -- null, or a list of any number of expressions
-  optional_form : List Name → Form
+  -- null, or a list of any number of these
+  optional_form : List Name → Asked → Form
 
 -- a part of a value: what its place asks for, and the part itself
 pub record Part : Type 0 where
@@ -103,6 +103,8 @@ small_form smalls.Mode = a_mode
 small_form smalls.Nothing = nothing_form
 small_form smalls.Flag = flag_form
 small_form smalls.Index = an_index
+small_form smalls.Natural = a_natural
+small_form smalls.Keep = a_keep
 
 -- what has no forms
 abbrev pub leaf_form : List Name → Leaf → Form
@@ -120,7 +122,7 @@ asked_form names (a_form kind) = keyed_form names kind
 asked_form names (leaf which) = leaf_form names which
 asked_form names (many a) = list_of names a
 asked_form names order = order_form names
-asked_form names optional = optional_form names
+asked_form names (optional a) = optional_form names a
 
 abbrev pub places_form : List Name → Places → Form
 places_form names (single a) = asked_form names a
@@ -195,12 +197,14 @@ has_shape a_mode d = is_some (mode_of d)
 has_shape nothing_form d = is_some (as_null d)
 has_shape flag_form d = is_some (as_bool d)
 has_shape an_index d = is_some (index_of d)
+has_shape a_natural d = is_some (natural_of d)
+has_shape a_keep d = is_some (keep_of d)
 has_shape an_excluded d = is_some (keyed_part excluded_key_form d)
 has_shape (keyed_form names kind) d = is_some (keyed_part (key_form names kind) d)
 has_shape (list_of names a) d = is_list (λ items. true) d
 has_shape (items_of names ps) d = is_list (λ items. items_len items == length ps) d
 has_shape (order_form names) d = is_some (as_null d) || is_list (λ items. items_len items == length order_items) d
-has_shape (optional_form names) d = is_some (as_null d) || is_list (λ items. true) d
+has_shape (optional_form names a) d = is_some (as_null d) || is_list (λ items. true) d
 
 -- how a value itself breaks the form
 abbrev pub own_fault : Form → Data → Option FaultKind
@@ -264,7 +268,7 @@ part_of (keyed_form names kind) (key word) d = option_and_then (part_if word) (k
 part_of (list_of names a) (number n) d = option_map (part (asked_form names a)) (at n d)
 part_of (items_of names ps) (number n) d = option_and_then (item_part names ps n) (as_array d)
 part_of (order_form names) (number n) d = option_and_then (item_part names order_items n) (as_array d)
-part_of (optional_form names) (number n) d = option_map (part (asked_form names expression)) (at n d)
+part_of (optional_form names a) (number n) d = option_map (part (asked_form names a)) (at n d)
 part_of _ _ d = None
 
 -- ---- faults along a path

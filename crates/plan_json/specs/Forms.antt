@@ -5,7 +5,8 @@ use Rattle.plan_types.specs.Schemas.{Name, Columns}
 use Rattle.plan_types.specs.Types.{Ty}
 use Rattle.plan_types.specs.declared.dtype.CastOptions.{CastOptions}
 use Rattle.plan_dsl.specs.Ops.{Op, ColumnOp, BinaryOp, CastOp, LenOp, SliceOp, ExplodeOp, GatherOp, FilterOp, SortOp, SortByOp, AliasOp, WindowOp, TernaryOp, FunctionOp}
-use Rattle.plan_dsl.specs.Plans.{SourcePlan, all_known_values, nulls_filled, scan_op, source_select, source_hstack, source_group_by, source_filter, source_drop}
+use Rattle.plan_dsl.specs.Plans.{RechunkPass, SortWork, SourcePlan, all_known_values, nulls_filled, scan_op, source_cache, source_distinct, source_drop, source_filter, source_group_by, source_hstack, source_over, source_pass, source_select, source_sink, source_slice}
+use Rattle.plan_dsl.specs.declared.distinct_options.UniqueKeepStrategy.{UniqueKeepStrategy}
 use Rattle.plan_dsl.specs.Sources.{Excluded, Source, Plain, WildcardOp, ColumnsOp, DtypeColumnOp, IndexColumnOp, NthOp, ExcludeOp, SelectorOp, RootOp, RenameOp, KeepRoot, AddPrefix, AddSuffix, SetName, FieldAtOp, SetRule, Add, Sub, Intersect, ExclusiveOr, SourceOp, of_two}
 use Rattle.plan_dsl.specs.Trees.{node, no_more, more, children_from}
 use Rattle.plan_dsl.specs.declared.aggregate.GroupByMethod.{GroupByMethod}
@@ -56,8 +57,8 @@ pub data Asked : Type 0 where
   many : Asked → Asked
   -- null, or a list of an expression and two flags
   order : Asked
-  -- null, or a list of any number of expressions
-  optional : Asked
+  -- null, or a list of any number of these
+  optional : Asked → Asked
 
 -- what a key asks of its value
 pub data Places : Type 0 where
@@ -175,6 +176,12 @@ plan_rows =
     (codes "select", by.Select) ∷
     (codes "with_columns", by.WithColumns) ∷
     (codes "group_by", by.GroupBy) ∷
+    (codes "sort", by.Sort) ∷
+    (codes "distinct", by.Distinct) ∷
+    (codes "slice", by.Slice) ∷
+    (codes "cache", by.Cache) ∷
+    (codes "sink", by.Sink) ∷
+    (codes "rechunk", by.Rechunk) ∷
     (codes "drop", by.Drop) ∷
     (codes "drop_nulls", by.DropNulls) ∷
     (codes "fill_null", by.FillNull) ∷ []
@@ -187,8 +194,14 @@ plan_asks by.Filter = listed (plan ∷ expression ∷ [])
 plan_asks by.Select = listed (plan ∷ many expression ∷ [])
 plan_asks by.WithColumns = listed (plan ∷ many expression ∷ [])
 plan_asks by.GroupBy = listed (plan ∷ many expression ∷ many expression ∷ [])
+plan_asks by.Sort = listed (plan ∷ many expression ∷ many (leaf (leaves.Small smalls.Flag)) ∷ many (leaf (leaves.Small smalls.Flag)) ∷ [])
+plan_asks by.Distinct = listed (plan ∷ optional selector ∷ leaf (leaves.Small smalls.Keep) ∷ [])
+plan_asks by.Slice = listed (plan ∷ leaf (leaves.Small smalls.Index) ∷ leaf (leaves.Small smalls.Natural) ∷ [])
+plan_asks by.Cache = listed (plan ∷ leaf (leaves.Small smalls.Natural) ∷ [])
+plan_asks by.Sink = single plan
+plan_asks by.Rechunk = single plan
 plan_asks by.Drop = listed (plan ∷ many selector ∷ leaf (leaves.Small smalls.Flag) ∷ [])
-plan_asks by.DropNulls = listed (plan ∷ optional ∷ [])
+plan_asks by.DropNulls = listed (plan ∷ optional expression ∷ [])
 plan_asks by.FillNull = listed (plan ∷ expression ∷ [])
 
 -- ---- types
@@ -230,6 +243,8 @@ mutual
     nothing_read : Read
     flag_read : Bool → Read
     index_read : ℤ → Read
+    natural_read : ℕ → Read
+    keep_read : UniqueKeepStrategy → Read
     excluded_read : Excluded → Read
     -- how rows are put in order, if they are, and by which expressions
     order_read : Option SortOptions → List Source → Read
@@ -314,6 +329,11 @@ abbrev pub optional_read : Option (List Source) → Read
 optional_read None = nothing_read
 optional_read (Some trees) = many_read (reads_of (map expression_read trees))
 
+-- no list of selectors, or these
+abbrev pub subset_read : Option (List Source) → Read
+subset_read None = nothing_read
+subset_read (Some trees) = chosen_read (reads_of (map selector_read trees))
+
 abbrev pub marker_says : MarkerKey → List Read → Option Source
 marker_says marks.Cols (leaves_read _ names ∷ []) = Some (node (ColumnsOp (names_in names)) no_more)
 marker_says marks.Dtypes (leaves_read _ types ∷ []) = Some (node (DtypeColumnOp (types_in types)) no_more)
@@ -386,6 +406,15 @@ plan_says by.WithColumns (plan_read input ∷ many_read outputs ∷ []) =
     Some (source_hstack (expressions_in outputs) input)
 plan_says by.GroupBy (plan_read input ∷ many_read keys ∷ many_read aggs ∷ []) =
     Some (source_group_by (expressions_in keys) (expressions_in aggs) input)
+plan_says by.Sort (plan_read input ∷ many_read keys ∷ leaves_read _ descending ∷ leaves_read _ nulls_last ∷ []) =
+    Some (source_over (SortWork (flags_in descending) (flags_in nulls_last)) (expressions_in keys ∷ []) input)
+plan_says by.Distinct (plan_read input ∷ nothing_read ∷ keep_read keep ∷ []) = Some (source_distinct keep None input)
+plan_says by.Distinct (plan_read input ∷ chosen_read subset ∷ keep_read keep ∷ []) =
+    Some (source_distinct keep (Some (selectors_in subset)) input)
+plan_says by.Slice (plan_read input ∷ index_read offset ∷ natural_read count ∷ []) = Some (source_slice offset count input)
+plan_says by.Cache (plan_read input ∷ natural_read id ∷ []) = Some (source_cache id input)
+plan_says by.Sink (plan_read input ∷ []) = Some (source_sink input)
+plan_says by.Rechunk (plan_read input ∷ []) = Some (source_pass RechunkPass input)
 plan_says by.Drop (plan_read input ∷ chosen_read selectors ∷ flag_read strict ∷ []) =
     Some (source_drop (selectors_in selectors) strict input)
 plan_says by.DropNulls (plan_read input ∷ nothing_read ∷ []) = Some (source_filter (all_known_values None) input)
@@ -442,11 +471,14 @@ abbrev mutual
   fits (leaf (leaves.Small smalls.Nothing)) nothing_read = true
   fits (leaf (leaves.Small smalls.Flag)) (flag_read flag) = true
   fits (leaf (leaves.Small smalls.Index)) (index_read index) = true
+  fits (leaf (leaves.Small smalls.Natural)) (natural_read natural) = true
+  fits (leaf (leaves.Small smalls.Keep)) (keep_read keep) = true
   fits (leaf leaves.Excluded) (excluded_read excluded) = true
   fits (leaf leaves.Function) (function_read function) = true
   fits order (order_read way by) = true
-  fits optional nothing_read = true
-  fits optional (many_read rs) = all_fit expression rs
+  fits (optional a) nothing_read = true
+  fits (optional (a_form kinds.Expression)) (many_read rs) = all_fit expression rs
+  fits (optional (a_form kinds.Selector)) (chosen_read rs) = all_fit selector rs
   fits (many (leaf leaves.Name)) (leaves_read leaves.Name rs) = all_fit (leaf leaves.Name) rs
   fits (many (leaf leaves.Dtype)) (leaves_read leaves.Dtype rs) = all_fit (leaf leaves.Dtype) rs
   fits (many (leaf (leaves.Small smalls.Flag))) (leaves_read (leaves.Small smalls.Flag) rs) = all_fit (leaf (leaves.Small smalls.Flag)) rs
@@ -495,7 +527,8 @@ place_view (places.Leaf which) = leaf which
 place_view places.Expressions = many expression
 place_view places.Selectors = many selector
 place_view places.Order = order
-place_view places.Optional = optional
+place_view places.OptionalExpressions = optional expression
+place_view places.OptionalSelectors = optional selector
 place_view (places.Leaves which) = many (leaf (listed_leaf which))
 
 abbrev pub places_view : CodePlaces → Places

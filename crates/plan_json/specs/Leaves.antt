@@ -6,7 +6,7 @@ use Rattle.std.specs.Option.{option_or}
 use Rattle.std.specs.Str.{chars, bytes_eq}
 use Rattle.serde_json.specs.Data.{Data, null, boolean, number as numeral, string, array, object, Items, no_items, item, no_members, member}
 use Rattle.serde_json.specs.Events.{items_len}
-use Rattle.serde_json.specs.Find.{get, as_str, as_array, as_number, as_i64}
+use Rattle.serde_json.specs.Find.{get, as_str, as_array, as_number, as_i64, as_u64}
 use Rattle.plan_types.specs.Schemas.{Name, Columns, same_name, names_of, repeats}
 use Rattle.plan_types.specs.Casts.{number_in}
 use Rattle.plan_types.specs.Types.{Ty, NullType, Truth, Integer, TextType, DateType, TimeType, DatetimeType, DurationType, ListType, StructType, Untyped, Fields, fields_from, is_counted}
@@ -19,6 +19,8 @@ use Rattle.plan_dsl.specs.Ops.{Op, LiteralOp}
 use Rattle.plan_dsl.specs.Sources.{Excluded, ExcludedName, ExcludedType}
 use Rattle.plan_dsl.specs.declared.aggregate.GroupByMethod.{GroupByMethod}
 use Rattle.plan_dsl.specs.declared.aggregate.GroupByMethod.TheVariants.{Min, Max, NUnique, First, Last, Implode, Sum, Count, Groups}
+use Rattle.plan_dsl.specs.declared.distinct_options.UniqueKeepStrategy.{UniqueKeepStrategy}
+use Rattle.plan_dsl.specs.declared.distinct_options.UniqueKeepStrategy.TheVariants as keeps
 use Rattle.plan_dsl.specs.declared.function_expr.FunctionExpr.{FunctionExpr}
 use Rattle.plan_dsl.specs.declared.function_expr.FunctionExpr.TheVariants.{AllHorizontal, AnyHorizontal, IsNull, IsNotNull, FillNull, IsIn, ShiftAndFill, ListGet}
 use Rattle.plan_dsl.specs.declared.operator.Operator.{Operator}
@@ -188,11 +190,30 @@ mode_named name =
 abbrev pub mode_of : Data → Option CastOptions
 mode_of d = option_and_then mode_named (as_str d)
 
--- ---- places of columns, and what an exclude leaves out
+-- which row is kept of equal ones
+abbrev pub keep_named : List ℕ → Option UniqueKeepStrategy
+keep_named name =
+    if bytes_eq name (codes "First") then Some keeps.First else (
+    if bytes_eq name (codes "Last") then Some keeps.Last else (
+    if bytes_eq name (codes "None") then Some keeps.None else (
+    if bytes_eq name (codes "Any") then Some keeps.Any else None)))
+
+abbrev pub keep_of : Data → Option UniqueKeepStrategy
+keep_of d = option_and_then keep_named (as_str d)
+
+-- ---- places of columns, other numbers, and what an exclude leaves out
 
 -- a whole number of 64 bits with a sign
 abbrev pub index_of : Data → Option ℤ
 index_of d = option_and_then as_i64 (as_number d)
+
+-- a number that 32 bits without a sign hold
+abbrev pub short : ℕ → Option ℕ
+short number = if nat_lt number (2 ^ 32) then Some number else None
+
+-- a whole number of 32 bits without a sign
+abbrev pub natural_of : Data → Option ℕ
+natural_of d = option_and_then short (option_and_then as_u64 (as_number d))
 
 -- what its key says of its value
 abbrev pub keyed_excluded : ExcludedKey → Data → Option Excluded

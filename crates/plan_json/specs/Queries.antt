@@ -4,9 +4,9 @@ use Rattle.serde_json.specs.Find.{as_bool, as_null, get_item}
 use Rattle.serde_json.specs.Data.{Data, array, object, Items, no_items, item, no_members, member}
 use Rattle.plan_dsl.specs.Plans.{SourcePlan, plan_tree}
 use Rattle.plan_dsl.specs.declared.plan.DslPlan.{DslPlan}
-use Rattle.plan_dsl.specs.declared.plan.DslPlan.TheVariants.{DataFrameScan, Filter', GroupBy', HStack', MapFunction', Select'}
-use Rattle.plan_json.specs.Forms.{Asked, a_form, leaf, many, order, optional, expression, many_read, order_items, order_says, no_order, Places, single, listed, plan, Read, name_read, literal_read, operator_read, method_read, function_read, type_read, mode_read, table_read, columns_read, plan_read, list_read, reads_of, key_named, asks, says, nothing_read, flag_read, index_read, excluded_read}
-use Rattle.plan_json.specs.Leaves.{excluded_item, index_of, text_of, literal_written, operator_of, method_of, function_of, type_of, mode_of, table_at, columns_of, tables_of}
+use Rattle.plan_dsl.specs.declared.plan.DslPlan.TheVariants.{Cache', DataFrameScan, Distinct', Filter', GroupBy', HStack', MapFunction', Select', Sink', Slice', Sort'}
+use Rattle.plan_json.specs.Forms.{Asked, a_form, leaf, many, order, optional, order_items, order_says, no_order, Places, single, listed, plan, Read, name_read, literal_read, operator_read, method_read, function_read, type_read, mode_read, table_read, columns_read, plan_read, list_read, reads_of, key_named, asks, says, nothing_read, flag_read, index_read, natural_read, keep_read, excluded_read}
+use Rattle.plan_json.specs.Leaves.{excluded_item, index_of, keep_of, natural_of, text_of, literal_written, operator_of, method_of, function_of, type_of, mode_of, table_at, columns_of, tables_of}
 use Rattle.plan_json.specs.Looking.{both, two_members}
 use Rattle.plan_json.specs.Tables.{Declared, declared}
 use Rattle.plan_json.specs.declared.forms.Leaf.{Leaf}
@@ -40,6 +40,8 @@ small_of smalls.Mode d = option_map mode_read (mode_of d)
 small_of smalls.Nothing d = nothing_of d
 small_of smalls.Flag d = option_map flag_read (as_bool d)
 small_of smalls.Index d = option_map index_read (index_of d)
+small_of smalls.Natural d = option_map natural_read (natural_of d)
+small_of smalls.Keep d = option_map keep_read (keep_of d)
 
 abbrev pub leaf_of : Declared → Leaf → Data → Option Read
 leaf_of tables leaves.Name d = option_map name_read (text_of d)
@@ -68,8 +70,8 @@ abbrev mutual
   read_as tables (many a) (array ds) = option_map (λ rs. list_read a (reads_of rs)) (each_as tables a ds)
   read_as tables order (array ds) = option_and_then order_says (these_as tables order_items ds)
   read_as tables order d = order_of_null d
-  read_as tables optional (array ds) = option_map (λ rs. many_read (reads_of rs)) (each_as tables expression ds)
-  read_as tables optional d = nothing_of d
+  read_as tables (optional a) (array ds) = option_map (λ rs. list_read a (reads_of rs)) (each_as tables a ds)
+  read_as tables (optional a) d = nothing_of d
   read_as tables _ _ = None
 
   -- a list of exactly these
@@ -111,7 +113,7 @@ query_from parts =
 abbrev pub query_of : Data → Option QueryModel
 query_of d = option_and_then query_from (two_members (codes "tables") (codes "plan") d)
 
--- whether some select, hstack or group-by of the plan has its option set, which no query can write
+-- whether some select, hstack, group-by or distinct of the plan has its option set, which no query can write
 abbrev pub has_flags : DslPlan → Bool
 has_flags (DataFrameScan table schema) = false
 has_flags (Select' expr p input options) = options.duplicate_check || has_flags input
@@ -119,6 +121,11 @@ has_flags (HStack' exprs p input options) = options.duplicate_check || has_flags
 has_flags (GroupBy' p input keys aggs maintain_order) = maintain_order || has_flags input
 has_flags (Filter' p input predicate) = has_flags input
 has_flags (MapFunction' p input function) = has_flags input
+has_flags (Sort' p input by_column sort_options) = has_flags input
+has_flags (Distinct' p input options) = options.maintain_order || has_flags input
+has_flags (Slice' p input offset len) = has_flags input
+has_flags (Cache' p input id) = has_flags input
+has_flags (Sink' p input payload) = has_flags input
 
 -- the value is the query
 abbrev pub IsQueryOf : Data → QueryModel → Type 0

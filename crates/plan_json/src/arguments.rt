@@ -7,12 +7,13 @@ ghost use Rattle.plan_dsl.specs.Plans.{plan_tree};
 ghost use Rattle.plan_types.specs.Schemas.{columns};
 ghost use Rattle.plan_types.specs.Types.{ty};
 ghost use Rattle.plan_json.specs.Arguments.{arg_view, args_view, items_seen};
-ghost use Rattle.plan_json.specs.Forms.{AllFit, Asked, Fits, optional, optional_read, chosen_read, columns_read, expression, expression_read, leaf, leaves_read, literal_read, many, many_read, method_read, function_read, mode_read, name_read, operator_read, order, order_items, order_read, order_says, plan, plan_read, reads_of, selector, selector_read, table_read, type_read, nothing_read, flag_read, index_read, excluded_read, is_literal};
+ghost use Rattle.plan_json.specs.Forms.{AllFit, Asked, Fits, optional, optional_read, chosen_read, columns_read, expression, expression_read, leaf, leaves_read, literal_read, many, many_read, method_read, function_read, mode_read, name_read, operator_read, order, order_items, order_read, order_says, plan, plan_read, reads_of, selector, selector_read, table_read, type_read, nothing_read, flag_read, index_read, natural_read, keep_read, subset_read, excluded_read, is_literal};
 ghost use Rattle.plan_json.specs.Queries.{has_flags};
 ghost use Rattle.plan_json.specs.declared.forms.Leaf.TheVariants as leaves;
 ghost use Rattle.plan_json.specs.declared.forms.SmallLeaf.TheVariants as smalls;
 
 use plan_dsl::aggregate::GroupByMethod;
+use plan_dsl::distinct_options::UniqueKeepStrategy;
 use plan_dsl::expr::{Expr, Exprs};
 use plan_dsl::function_expr::FunctionExpr;
 use plan_dsl::literal::LiteralValue;
@@ -40,6 +41,8 @@ pub(crate) enum Arg {
     Nothing,
     Flag(bool),
     Index(i64),
+    Natural(u32),
+    Keep(UniqueKeepStrategy),
     Excluded(Box<Excluded>),
     Order(Option<(Box<Expr>, SortOptions)>),
     Expression(Box<Expr>),
@@ -250,6 +253,20 @@ pub(crate) fn index(arg: Arg) -> i64
     taken!(arg, Arg::Index(index) => index)
 }
 
+pub(crate) fn natural(arg: Arg) -> u32
+    requires { Fits (leaf (leaves.Small smalls.Natural)) (arg_view arg) }
+    ensures { arg_view arg ≡ natural_read result }
+{
+    taken!(arg, Arg::Natural(natural) => natural)
+}
+
+pub(crate) fn keep(arg: Arg) -> UniqueKeepStrategy
+    requires { Fits (leaf (leaves.Small smalls.Keep)) (arg_view arg) }
+    ensures { arg_view arg ≡ keep_read result }
+{
+    taken!(arg, Arg::Keep(keep) => keep)
+}
+
 // How rows are put in order, and by which expression, if they are.
 pub(crate) fn order(arg: Arg) -> Option<(Box<Expr>, SortOptions)>
     requires { Fits order (arg_view arg) }
@@ -304,7 +321,7 @@ pub(crate) fn expressions(arg: Arg) -> Exprs
 
 // A list of expressions, if there is one.
 pub(crate) fn some_expressions(arg: Arg) -> Option<Vec<Expr>>
-    requires { Fits optional (arg_view arg) }
+    requires { Fits (optional expression) (arg_view arg) }
     ensures { arg_view arg ≡ optional_read (option_map (λ exprs. map tree_of exprs.items) result) }
 {
     match arg {
@@ -320,6 +337,18 @@ pub(crate) fn selectors(arg: Arg) -> Selectors
     ensures { arg_view arg ≡ chosen_read (reads_of (map selector_read (selector_trees result))) }
 {
     taken!(arg, Arg::Selectors(selectors) => Box::into_inner(selectors))
+}
+
+// A list of selectors, if there is one.
+pub(crate) fn some_selectors(arg: Arg) -> Option<Selectors>
+    requires { Fits (optional selector) (arg_view arg) }
+    ensures { arg_view arg ≡ subset_read (option_map selector_trees result) }
+{
+    match arg {
+        Arg::Nothing => None,
+        Arg::Selectors(selectors) => Some(Box::into_inner(selectors)),
+        _ => unreachable!(),
+    }
 }
 
 // A list of truth values, in the box in which it was read.

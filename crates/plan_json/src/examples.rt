@@ -8,6 +8,7 @@ pub mod functions;
 pub mod markers;
 pub mod nulls;
 pub mod windows;
+pub mod works;
 
 ghost use Rattle.std.specs.Prelude.{◌≡◌, pos, [], ◌∷◌, Some, None, codes, nat_lt, true, false, ℕ, ℤ, negsuc, Float, List};
 ghost use Rattle.plan_types.specs.Types.{NullType, Truth, Integer, TextType, DateType, TimeType, DatetimeType, DurationType, ListType, StructType, no_field, with_field, Untyped};
@@ -53,7 +54,7 @@ pub fn declaration_examples()
     ensures no_queries { let t = table_value "t" (list []) in let twice = list (column_value "a" "Int8" ∷ column_value "a" "Int8" ∷ []) in
         GivesAll query_of None (object (member (codes "plan") empty_value (member (codes "tables") (list []) (member (codes "x") null no_members))) ∷
         keyed "tables" (list []) ∷ keyed_twice "plans" empty_value "tables" (list []) ∷ boolean true ∷
-        query_value [] (keyed "sink" (list [])) ∷ query_value [] (scan_value "t") ∷ query_value (t ∷ t ∷ []) (scan_value "t") ∷ query_value [] (keyed "empty" twice) ∷ []) }
+        query_value [] (keyed "store" (list [])) ∷ query_value [] (scan_value "t") ∷ query_value (t ∷ t ∷ []) (scan_value "t") ∷ query_value [] (keyed "empty" twice) ∷ []) }
     ensures tables { let s = table_value "s" (list []) in let t = table_value "t" (list []) in
         Gives tables_of ((list [], Some []) ∷ (list (table_value "t" (list (column_value "a" "Int8" ∷ [])) ∷ []), Some ((codes "t", (codes "a", int8) ∷ []) ∷ [])) ∷
         (list (t ∷ s ∷ []), Some ((codes "t", []) ∷ (codes "s", []) ∷ [])) ∷ []) }
@@ -192,7 +193,7 @@ pub fn text_examples()
         ("{\"tables\":[],\"plan\":{\"filter\":[{\"empty\":[]},{\"lit\":18446744073709551615}]}}", query [] (filter (untyped (pos 18446744073709551615)) empty_table)) ∷
         ("{\"tables\":[],\"plan\":{\"select\":[{\"empty\":[]},[{\"nth\":-1},{\"suffix\":[{\"all\":null},\"\\u00e9\"]}]]}}", query [] (source_select (nth (negsuc 0) ∷ form (AddSuffix (0xe9 ∷ [])) all ∷ []) empty_table)) ∷
         ("{\"tables\":1,\"plan\":2,\"tables\":[],\"plan\":{\"empty\":[]}}", query [] empty_table) ∷ []) }
-    ensures refused { Each Refused (("{\"tables\":[],\"plan\":{\"sink\":[]}}", BadShape, "/plan") ∷
+    ensures refused { Each Refused (("{\"tables\":[],\"plan\":{\"store\":[]}}", BadShape, "/plan") ∷
         ("{\"tables\":[],\"plan\":{\"empty\":[[\"a\",{\"Datetime\":\"s\"}]]}}", BadShape, "/plan/empty/0/1/Datetime") ∷
         ("{\"tables\":[],\"plan\":{\"scan\":\"t\"}}", BadName, "/plan/scan") ∷ ("{\"tables\":[],\"plan\":{\"filter\":[{\"empty\":[]},{\"lit\":1.5}]}}", BadFloat, "/plan/filter/1/lit") ∷
         ("{\"tables\":[],\"plan\":{\"scan\":18446744073709551616}}", BadFloat, "/plan/scan") ∷ ("{\"tables\":[],\"plan\":{\"scan\":-9223372036854775809}}", BadFloat, "/plan/scan") ∷

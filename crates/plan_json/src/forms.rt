@@ -58,6 +58,10 @@ pub(crate) enum SmallLeaf {
     Flag,
     // A whole number of 64 bits with a sign.
     Index,
+    // A whole number of 32 bits without a sign.
+    Natural,
+    // Which row is kept of equal ones.
+    Keep,
 }
 
 // What has no forms and stands in lists.
@@ -82,7 +86,9 @@ pub(crate) enum Place {
     // Null, or a list of an expression and two flags.
     Order,
     // Null, or a list of any number of expressions.
-    Optional,
+    OptionalExpressions,
+    // Null, or a list of any number of selectors.
+    OptionalSelectors,
     // A list of any number of these.
     Leaves(ListLeaf),
 }
@@ -161,6 +167,12 @@ pub(crate) enum PlanKey {
     Select,
     WithColumns,
     GroupBy,
+    Sort,
+    Distinct,
+    Slice,
+    Cache,
+    Sink,
+    Rechunk,
     Drop,
     DropNulls,
     FillNull,
@@ -199,7 +211,9 @@ const SELECTORS: Place = Place::Selectors;
 
 const ORDER: Place = Place::Order;
 
-const OPTIONAL: Place = Place::Optional;
+const OPTIONAL_EXPRESSIONS: Place = Place::OptionalExpressions;
+
+const OPTIONAL_SELECTORS: Place = Place::OptionalSelectors;
 
 const NAMES: Place = Place::Leaves(ListLeaf::Name);
 
@@ -234,6 +248,10 @@ const NOTHING: Place = Place::Leaf(Leaf::Small(SmallLeaf::Nothing));
 const FLAG: Place = Place::Leaf(Leaf::Small(SmallLeaf::Flag));
 
 const INDEX: Place = Place::Leaf(Leaf::Small(SmallLeaf::Index));
+
+const NATURAL: Place = Place::Leaf(Leaf::Small(SmallLeaf::Natural));
+
+const KEEP: Place = Place::Leaf(Leaf::Small(SmallLeaf::Keep));
 
 // A word is looked for from the first row on, so common ones stand in front.
 const EXPRESSION_ROWS: [(&'static str, ExpressionKey); 31] = [
@@ -278,13 +296,19 @@ const SELECTOR_ROWS: [(&'static str, SelectorKey); 5] = [
     ("xor", SelectorKey::Joined(Joining::Xor)),
 ];
 
-const PLAN_ROWS: [(&'static str, PlanKey); 9] = [
+const PLAN_ROWS: [(&'static str, PlanKey); 15] = [
     ("scan", PlanKey::Scan),
     ("empty", PlanKey::Empty),
     ("filter", PlanKey::Filter),
     ("select", PlanKey::Select),
     ("with_columns", PlanKey::WithColumns),
     ("group_by", PlanKey::GroupBy),
+    ("sort", PlanKey::Sort),
+    ("distinct", PlanKey::Distinct),
+    ("slice", PlanKey::Slice),
+    ("cache", PlanKey::Cache),
+    ("sink", PlanKey::Sink),
+    ("rechunk", PlanKey::Rechunk),
     ("drop", PlanKey::Drop),
     ("drop_nulls", PlanKey::DropNulls),
     ("fill_null", PlanKey::FillNull),
@@ -453,8 +477,14 @@ fn plan_places(key: PlanKey) -> Places
         PlanKey::Select => Places::Listed(&[PLAN, EXPRESSIONS]),
         PlanKey::WithColumns => Places::Listed(&[PLAN, EXPRESSIONS]),
         PlanKey::GroupBy => Places::Listed(&[PLAN, EXPRESSIONS, EXPRESSIONS]),
+        PlanKey::Sort => Places::Listed(&[PLAN, EXPRESSIONS, FLAGS, FLAGS]),
+        PlanKey::Distinct => Places::Listed(&[PLAN, OPTIONAL_SELECTORS, KEEP]),
+        PlanKey::Slice => Places::Listed(&[PLAN, INDEX, NATURAL]),
+        PlanKey::Cache => Places::Listed(&[PLAN, NATURAL]),
+        PlanKey::Sink => Places::One(PLAN),
+        PlanKey::Rechunk => Places::One(PLAN),
         PlanKey::Drop => Places::Listed(&[PLAN, SELECTORS, FLAG]),
-        PlanKey::DropNulls => Places::Listed(&[PLAN, OPTIONAL]),
+        PlanKey::DropNulls => Places::Listed(&[PLAN, OPTIONAL_EXPRESSIONS]),
         PlanKey::FillNull => Places::Listed(&[PLAN, EXPRESSION]),
     }
 }

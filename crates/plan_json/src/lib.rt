@@ -14,6 +14,7 @@ mod excluded;
 mod expression;
 mod forms;
 mod function;
+mod keep;
 pub mod laws;
 mod lists;
 mod literal;

@@ -6,9 +6,9 @@ ghost use Rattle.plan_dsl.specs.Expressions.{excluded_of};
 ghost use Rattle.plan_types.specs.Schemas.{Name};
 ghost use Rattle.plan_types.specs.Types.{ty};
 ghost use Rattle.plan_json.specs.Errors.{IsErrorOf, IsListErrorOf};
-ghost use Rattle.plan_json.specs.Faults.{an_index, flag_form, leaf_form};
+ghost use Rattle.plan_json.specs.Faults.{a_natural, an_index, flag_form, leaf_form};
 ghost use Rattle.plan_json.specs.Forms.{Read, excluded_read, flag_read, index_read, leaf, leaves_read, many, name_read, reads_of, type_read};
-ghost use Rattle.plan_json.specs.Leaves.{index_of};
+ghost use Rattle.plan_json.specs.Leaves.{index_of, natural_of};
 ghost use Rattle.plan_json.specs.Queries.{leaf_of, read_as};
 ghost use Rattle.plan_json.specs.Readers.{IsReading};
 ghost use Rattle.plan_json.specs.Tables.{Declared};
@@ -129,5 +129,20 @@ pub(crate) fn read_index(alloc: Global, value: &Value) -> Result<i64, JsonError>
     match value.as_i64() {
         None => Err(JsonError::shape(alloc, value)),
         Some(index) => Ok(index),
+    }
+}
+
+// A whole number of 32 bits without a sign.
+pub(crate) fn read_natural(alloc: Global, value: &Value) -> Result<u32, JsonError>
+    ensures { IsReading natural_of a_natural (view value.now) result (λ natural. natural) }
+{
+    match value.as_u64() {
+        None => Err(JsonError::shape(alloc, value)),
+        Some(wide) => {
+            if wide >= 1 << 32 {
+                return Err(JsonError::shape(alloc, value));
+            }
+            Ok(wide as u32)
+        }
     }
 }

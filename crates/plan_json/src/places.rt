@@ -25,7 +25,8 @@ use super::forms::{
     find_expression, find_key, order_places, places_of,
 };
 use super::function::read_function;
-use super::lists::{read_flag, read_index, read_list};
+use super::keep::read_keep;
+use super::lists::{read_flag, read_index, read_list, read_natural};
 use super::literal::read_written;
 use super::method::read_method;
 use super::operator::{read_mode, read_operator};
@@ -348,7 +349,11 @@ fn read_place(alloc: Global, tables: &Tables, place: Place, value: &Value) -> Re
             Ok(arg) => Ok(arg),
             Err(error) => Err(error),
         },
-        Place::Optional => match read_optional(alloc, tables, value) {
+        Place::OptionalExpressions => match read_optional(alloc, tables, value) {
+            Ok(arg) => Ok(arg),
+            Err(error) => Err(error),
+        },
+        Place::OptionalSelectors => match read_optional_selectors(alloc, tables, value) {
             Ok(arg) => Ok(arg),
             Err(error) => Err(error),
         },
@@ -395,7 +400,7 @@ fn read_order(alloc: Global, tables: &Tables, value: &Value) -> Result<Arg, Json
 #[inline(never)]
 #[tactic(auto, using(crate::proofs::FormLemmas::optional_listed, crate::proofs::FormLemmas::optional_error))]
 fn read_optional(alloc: Global, tables: &Tables, value: &Value) -> Result<Arg, JsonError>
-    ensures { IsReadAs (declared tables.now) optional (view value.now) result arg_view }
+    ensures { IsReadAs (declared tables.now) (optional expression) (view value.now) result arg_view }
 {
     match value.as_null() {
         Some(()) => Ok(Arg::Nothing),
@@ -406,6 +411,19 @@ fn read_optional(alloc: Global, tables: &Tables, value: &Value) -> Result<Arg, J
                 Arg::Expressions
             )
         }
+    }
+}
+
+// Null, or a list of any number of selectors.
+#[cycle(forms)]
+#[inline(never)]
+#[tactic(auto, using(crate::proofs::FormLemmas::optional_listed, crate::proofs::FormLemmas::optional_error))]
+fn read_optional_selectors(alloc: Global, tables: &Tables, value: &Value) -> Result<Arg, JsonError>
+    ensures { IsReadAs (declared tables.now) (optional selector) (view value.now) result arg_view }
+{
+    match value.as_null() {
+        Some(()) => Ok(Arg::Nothing),
+        None => { boxed!(alloc, read_selectors(alloc, tables, value), Arg::Selectors) }
     }
 }
 
@@ -489,6 +507,8 @@ fn read_small(alloc: Global, which: SmallLeaf, value: &Value) -> Result<Arg, Jso
         },
         SmallLeaf::Flag => plain!(read_flag(alloc, value), Arg::Flag),
         SmallLeaf::Index => plain!(read_index(alloc, value), Arg::Index),
+        SmallLeaf::Natural => plain!(read_natural(alloc, value), Arg::Natural),
+        SmallLeaf::Keep => plain!(read_keep(alloc, value), Arg::Keep),
     }
 }
 

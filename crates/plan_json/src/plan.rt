@@ -8,14 +8,16 @@ ghost use Rattle.plan_json.specs.Readers.{IsPlanOf};
 ghost use Rattle.plan_json.specs.declared.forms.PlanKey.TheVariants as by;
 
 use super::arguments::{
-    Args, columns, expression, expressions, flag, one, plan, selectors, some_expressions, table,
-    three, two,
+    Args, columns, expression, expressions, flag, flags, four, index, keep, natural, one, plan,
+    selectors, some_expressions, some_selectors, table, three, two,
 };
 use super::error::JsonError;
 use super::forms::PlanKey;
 use plan_dsl::builder::DslBuilder;
-use plan_dsl::function::{DropFunction, DslFunction};
-use plan_dsl::plan::{DslPlan, ProjectionOptions};
+use plan_dsl::distinct_options::DistinctOptionsDSL;
+use plan_dsl::function::{DropFunction, DslFunction, FunctionIR};
+use plan_dsl::plan::{DslPlan, ProjectionOptions, SinkType};
+use plan_dsl::sort_options::SortMultipleOptions;
 use std::alloc::Global;
 
 // The plan of that key.
@@ -40,6 +42,12 @@ pub(crate) fn assemble_plan(alloc: Global, key: PlanKey, args: Args) -> Result<D
         PlanKey::Select => Ok(select(args)),
         PlanKey::WithColumns => Ok(with_columns(args)),
         PlanKey::GroupBy => Ok(group_by(args)),
+        PlanKey::Sort => Ok(sort(args)),
+        PlanKey::Distinct => Ok(distinct(args)),
+        PlanKey::Slice => Ok(slice(args)),
+        PlanKey::Cache => Ok(cache(args)),
+        PlanKey::Sink => Ok(sink(args)),
+        PlanKey::Rechunk => Ok(rechunk(args)),
         PlanKey::Drop => Ok(drop_columns(args)),
         PlanKey::DropNulls => drop_nulls(alloc, args),
         PlanKey::FillNull => fill_null(alloc, args),
@@ -95,6 +103,81 @@ fn with_columns(args: Args) -> DslPlan
         options: ProjectionOptions {
             duplicate_check: false,
         },
+    }
+}
+
+#[tactic(auto, using(crate::proofs::FormLemmas::expressions_read, crate::proofs::FormLemmas::flags_read))]
+fn sort(args: Args) -> DslPlan
+    requires { AllFit (asked_in (plan_asks by.Sort)) (args_view args) }
+    ensures { IsPlanOf by.Sort (args_view args) result }
+{
+    let (input, keys, descending, nulls_last) = four(args);
+    DslPlan::Sort {
+        input: plan(input),
+        by_column: expressions(keys),
+        sort_options: SortMultipleOptions {
+            descending: flags(descending),
+            nulls_last: flags(nulls_last),
+        },
+    }
+}
+
+#[tactic(auto, using(crate::proofs::FormLemmas::distinct_said))]
+fn distinct(args: Args) -> DslPlan
+    requires { AllFit (asked_in (plan_asks by.Distinct)) (args_view args) }
+    ensures { IsPlanOf by.Distinct (args_view args) result }
+{
+    let (input, subset, kept) = three(args);
+    DslPlan::Distinct {
+        input: plan(input),
+        options: DistinctOptionsDSL {
+            subset: some_selectors(subset),
+            maintain_order: false,
+            keep_strategy: keep(kept),
+        },
+    }
+}
+
+fn slice(args: Args) -> DslPlan
+    requires { AllFit (asked_in (plan_asks by.Slice)) (args_view args) }
+    ensures { IsPlanOf by.Slice (args_view args) result }
+{
+    let (input, offset, len) = three(args);
+    DslPlan::Slice {
+        input: plan(input),
+        offset: index(offset),
+        len: natural(len),
+    }
+}
+
+fn cache(args: Args) -> DslPlan
+    requires { AllFit (asked_in (plan_asks by.Cache)) (args_view args) }
+    ensures { IsPlanOf by.Cache (args_view args) result }
+{
+    let (input, id) = two(args);
+    DslPlan::Cache {
+        input: plan(input),
+        id: natural(id) as usize,
+    }
+}
+
+fn sink(args: Args) -> DslPlan
+    requires { AllFit (asked_in (plan_asks by.Sink)) (args_view args) }
+    ensures { IsPlanOf by.Sink (args_view args) result }
+{
+    DslPlan::Sink {
+        input: plan(one(args)),
+        payload: SinkType::Memory,
+    }
+}
+
+fn rechunk(args: Args) -> DslPlan
+    requires { AllFit (asked_in (plan_asks by.Rechunk)) (args_view args) }
+    ensures { IsPlanOf by.Rechunk (args_view args) result }
+{
+    DslPlan::MapFunction {
+        input: plan(one(args)),
+        function: DslFunction::FunctionIR(FunctionIR::Rechunk),
     }
 }
 

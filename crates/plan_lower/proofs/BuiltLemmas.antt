@@ -1,5 +1,5 @@
 -- What is built from scans and filters, and of any node over what was built from its input; and why a node isn't lowered.
-use Rattle.std.proofs.Common.{◌≡◌, ◌⊎◌, inl, inr, ℕ, List, [], ◌∷◌, ◌++◌, map, true, false, is_some, IsTrue, Option, Some, None, Result, Ok, Err, refl, sym, ap, ◌∙◌, subst, ⊎_elim}
+use Rattle.std.proofs.Common.{◌≡◌, ◌⊎◌, inl, inr, ℕ, List, [], ◌∷◌, map, true, false, is_some, IsTrue, Option, Some, Result, Ok, Err, refl, sym, ap, ◌∙◌, subst, ⊎_elim}
 use Rattle.std.specs.List.{AllByRecursion, Contains}
 use Rattle.std.proofs.lemmas.List.Elements.{Contains-push}
 use Rattle.plan_types.specs.Types.{Truth}
@@ -34,7 +34,7 @@ use Rattle.plan_dsl.proofs.CoreLemmas.{settled_none}
 use Rattle.plan_coerce.proofs.CoercedLemmas.{coerced_core}
 use Rattle.plan_coerce.proofs.InliningLemmas.{inlined_core}
 use Rattle.plan_dsl.proofs.RunLemmas.{strict_is_meaning}
-use Rattle.plan_dsl.proofs.RuleLemmas.{scan_schema, scan_unknown_kind, first_refused, filter_schema, filter_other_type, broken_is_ill_formed}
+use Rattle.plan_dsl.proofs.RuleLemmas.{scan_schema, scan_unknown_kind, filter_schema, broken_is_ill_formed}
 use Rattle.plan_arena.specs.Runs.{AreStrict, HasOwnName, HasRecorded, HaveOwnNames, IsStrictCore, by_running, plan_run}
 use Rattle.plan_arena.proofs.RunLemmas.{runs_soundly, sound_top}
 use Rattle.plan_bounds.proofs.BoundLemmas.{AreWithin, AllWithin, none_within, more_within, over_bounded, scan_bounded, split_bounded}
@@ -43,7 +43,7 @@ use Rattle.plan_bounds.proofs.WideLemmas.{filters_wide, split_wide}
 use Rattle.plan_expand.specs.Refusals.{IsUnexpanded, no_room as no_place, unexpanded}
 use Rattle.plan_lower.specs.Outputs.{Lowered, IsLowered, lowered_named}
 use Rattle.plan_properties.specs.Splitting.{IsCondition, IsWhole, split_predicate}
-use Rattle.plan_lower.specs.Predicates.{FiltersBy, IsPredicateRefusal, without_room, without_type, of_other_type, lowered_filter}
+use Rattle.plan_lower.specs.Predicates.{FiltersBy, lowered_filter}
 use Rattle.plan_properties.proofs.FilterLemmas.{runs_as, split_predicates, split_runs, stacked}
 use Rattle.plan_lower.proofs.SpelledLemmas.{spelled_means, typed_spelled}
 use Rattle.plan_lower.specs.Lowering.{IsBuilt, IsPlanRefusal, out_of_memory, broken, resolved_filter}
@@ -229,14 +229,6 @@ module _ (registry : Registry) where
   pub scan_refused_at : (table : Option ℕ) (schema : Columns) (error : PlanError) → IsMemoryOr InvalidOperation (all_known schema ≡ false) error → IsPlanRefusal registry (node (scan_op table schema) no_more) error
   scan_refused_at table schema error h =
       ⊎_elim (λ e. out_of_memory e) (λ p. refused_top (node (scan_op table schema) no_more) InvalidOperation error p.0 (scan_unknown_kind schema p.1)) h
-
-  -- a filter's predicate is refused
-  pub filter_refused_at : (source : Plan) (schema : Columns) (tree : Expression) (error : PlanError) → schema_of registry source ≡ Some schema → IsPredicateRefusal registry schema tree error → IsPlanRefusal registry (resolved_filter tree source) error
-  filter_refused_at source schema tree error there (without_room e) = out_of_memory e
-  filter_refused_at source schema tree error there (without_type kind e typing) =
-      refused_over (filter_op (named tree)) source schema kind error there e (first_refused registry schema FilterWork None [] (named tree) [] [] kind typing)
-  filter_refused_at source schema tree error there (of_other_type typed e typing other) =
-      refused_over (filter_op (named tree)) source schema InvalidOperation error there e (filter_other_type registry schema (named tree) typed typing other)
 
   inner_refused : (source : Plan) (op : PlanOp (Named Expression)) (inner error : PlanError) → IsPlanRefusal registry source inner → ¬ (inner.kind ≡ NoMemory) → error ≡ record { kind = inner.kind; place = 0 ∷ inner.place } → IsPlanRefusal registry (node op (more source no_more)) error
   inner_refused source op inner error (out_of_memory e) other is = absurd (other (ap (λ (x : PlanError). x.kind) e))

@@ -1,5 +1,5 @@
 -- What drops leave as lists that are made one by one, and simple projections of it over what was built.
-use Rattle.std.proofs.Common.{◌≡◌, ◌<◌, ◌+◌, ℕ, List, [], ◌∷◌, ◌++◌, drop, slice_get, length, Bool, true, false, cond, not, ◌&&◌, ◌||◌, is_some, Some, None, Ok, Err, refl, sym, ap, ◌∙◌, subst, arith}
+use Rattle.std.proofs.Common.{◌≡◌, ◌<◌, ◌+◌, ℕ, List, [], ◌∷◌, ◌++◌, drop, map, slice_get, length, Bool, true, false, cond, not, ◌&&◌, ◌||◌, is_some, Some, None, Ok, Err, refl, sym, ap, ◌∙◌, arith}
 use Rattle.std.proofs.lemmas.List.Elements.{Contains-push}
 use Rattle.std.proofs.lemmas.Option.{slice_get_within, get_or_from_slice_get}
 use Rattle.plan_types.specs.Types.{Ty}
@@ -10,15 +10,11 @@ use Rattle.plan_types.specs.declared.error.ErrorKind.TheVariants.{ColumnNotFound
 use Rattle.plan_types.specs.declared.error.PlanError.{PlanError}
 use Rattle.plan_types.proofs.SchemaLemmas.{copied_more, test_from_distinct, distinct_from_test}
 use Rattle.plan_dsl.specs.Registry.{Registry}
-use Rattle.plan_dsl.specs.Trees.{node, no_more, more}
-use Rattle.plan_dsl.specs.Plans.{Plan, PlanOp, SourcePlan, DropWork, SimpleProjectionWork, simple_projection_op, drop_op, source_function}
+use Rattle.plan_dsl.specs.Plans.{DropWork, SimpleProjectionWork, simple_projection_op}
 use Rattle.plan_dsl.specs.PlanKernels.{gives_nothing}
-use Rattle.plan_dsl.specs.PlanRules.{plan_rule, projection_kinds, schema_of}
+use Rattle.plan_dsl.specs.PlanRules.{plan_rule, projection_kinds}
 use Rattle.plan_dsl.specs.Refusals.{then_ok}
-use Rattle.plan_dsl.specs.Resolving.{over_expanded, over_named, resolved, resolved_kind}
-use Rattle.plan_dsl.specs.Expressions.{selector_trees}
-use Rattle.plan_dsl.specs.declared.function.DslFunction.{DslFunction}
-use Rattle.plan_dsl.specs.declared.function.DslFunction.TheVariants.{Drop}
+use Rattle.plan_dsl.specs.Resolving.{over_expanded, over_named, resolved_kind}
 use Rattle.plan_dsl.specs.Sources.{Source}
 use Rattle.plan_dsl.specs.Markers.{names_of_selectors}
 use Rattle.plan_dsl.specs.Drops.{have_names, columns_but, left_but, drop_leaves}
@@ -28,14 +24,11 @@ use Rattle.plan_dsl.proofs.RuleLemmas.{unbroken_kinds}
 use Rattle.plan_expand.specs.Refusals.{IsUnexpanded, unexpanded}
 use Rattle.plan_arena.specs.declared.aexpr.AExpr.{AExpr}
 use Rattle.plan_arena.specs.declared.ir.IR.{IR}
-use Rattle.plan_arena.specs.Items.{Grows, plan_layer}
+use Rattle.plan_arena.specs.Items.{plan_layer}
 use Rattle.plan_arena.specs.Layers.{layer}
-use Rattle.plan_arena.proofs.ItemLemmas.{plan_added, plan_stays}
-use Rattle.plan_lower.specs.Lowering.{IsPlanRefusal, StandsFor, IsDropAt, IsFunctionAt, IsFunctionRefusal, IsEmptyTableAt}
-use Rattle.plan_lower.specs.Nodes.{KeepsExpressions}
+use Rattle.plan_lower.specs.Lowering.{IsEmptyTableAt}
 use Rattle.plan_lower.specs.Works.{IsWorkAt, IsWorkRefusal, unresolved}
 use Rattle.plan_lower.proofs.BuiltLemmas.{unexpanded_then}
-use Rattle.plan_lower.proofs.WorkLemmas.{work_refused, work_stands}
 
 -- ---- columns one by one
 
@@ -92,49 +85,27 @@ module _ (registry : Registry) where
   some_columns [] e = absurd cc
   some_columns (column ∷ columns) e = omega arith
 
-  -- a drop is a node over one input, and so is its refusal
-  drop_work : (items : List AExpr) (plans : List IR) (n input : ℕ) (schema own : Columns) (selectors : List Source) (strict : Bool) → IsDropAt schema selectors strict plans n input own → IsWorkAt registry schema items plans n input (DropWork strict) (selectors ∷ []) own
-  drop_work items plans n input schema own selectors strict is =
+  -- a simple projection of what a drop leaves is a node over one input, and so is the refusal of a drop
+  pub drop_work : (items : List AExpr) (plans : List IR) (n input below : ℕ) (schema own : Columns) (selectors : List Source) (strict : Bool) → HasDistinctNames schema → drop_leaves schema selectors strict ≡ Ok own → (length own ≡ 0 → IsEmptyTableAt plans below) → (0 < length own → below ≡ input) → slice_get (map plan_layer plans) n ≡ Some (layer (simple_projection_op own (Some own)) (below ∷ [])) → IsWorkAt registry schema items plans n input (DropWork strict) (selectors ∷ []) own
+  drop_work items plans n input below schema own selectors strict distinct left nothing something item =
       record {
         trees = [];
         expanded = refl;
         own = SimpleProjectionWork own;
-        resolved = ap (λ r. then_ok r (λ columns. Ok (SimpleProjectionWork columns))) is.left;
+        resolved = ap (λ r. then_ok r (λ columns. Ok (SimpleProjectionWork columns))) left;
         outputs = [];
         trees_are = refl;
-        unbroken = record { each = tt; types = refl; kinds = unbroken_kinds (projection_kinds schema own) (Some own) own (drop_rule selectors strict schema own is.distinct is.left) };
+        unbroken = record { each = tt; types = refl; kinds = unbroken_kinds (projection_kinds schema own) (Some own) own (drop_rule selectors strict schema own distinct left) };
         whole = tt;
         columns_are = refl;
         nodes = [];
         denote = tt;
-        below = is.below;
-        nothing = λ e. is.nothing (no_columns own e);
-        something = λ e. is.something (some_columns own e);
-        item = is.item;
+        below = below;
+        nothing = λ e. nothing (no_columns own e);
+        something = λ e. something (some_columns own e);
+        item = item;
       }
 
-  drop_refusal : (schema : Columns) (selectors : List Source) (strict : Bool) (error : PlanError) → IsUnexpanded (drop_leaves schema selectors strict) error → IsWorkRefusal registry schema (DropWork strict) (selectors ∷ []) error
+  pub drop_refusal : (schema : Columns) (selectors : List Source) (strict : Bool) (error : PlanError) → IsUnexpanded (drop_leaves schema selectors strict) error → IsWorkRefusal registry schema (DropWork strict) (selectors ∷ []) error
   drop_refusal schema selectors strict error refused =
       unresolved (unexpanded_then (then_ok (drop_leaves schema selectors strict) (λ own. Ok (SimpleProjectionWork own))) (λ own. Ok (over_named [] own)) error (unexpanded_then (drop_leaves schema selectors strict) (λ own. Ok (SimpleProjectionWork own)) error refused))
-
-  -- the node that a function leaves stands for it, whatever the function
-  pub function_stands : (items items' : List AExpr) (plans new : List IR) (input n : ℕ) (schema own : Columns) (function : DslFunction) (source : SourcePlan) → KeepsExpressions items items' → Grows plans new → StandsFor registry items plans input schema (resolved registry source) → IsFunctionAt schema function new n input own → StandsFor registry items' new n own (resolved registry (source_function function source))
-  function_stands items items' plans new input n schema own (Drop function) source keeps grows s is =
-      let selectors = selector_trees function.to_drop in
-      work_stands registry (DropWork function.strict) (selectors ∷ []) items items' plans new input n schema own source keeps grows s (drop_work items' new n input schema own selectors function.strict is)
-
-  pub function_refused : (schema : Columns) (function : DslFunction) (source : SourcePlan) (error : PlanError) → schema_of registry (resolved registry source) ≡ Some schema → IsFunctionRefusal schema function error → IsPlanRefusal registry (resolved registry (source_function function source)) error
-  function_refused schema (Drop function) source error there refused =
-      let selectors = selector_trees function.to_drop in
-      work_refused registry (DropWork function.strict) (selectors ∷ []) schema source error there (drop_refusal schema selectors function.strict error refused)
-
-  -- a refusal of a function's input
-  pub function_below : (function : DslFunction) (source : SourcePlan) (plan : Plan) (error : PlanError) → ((op : PlanOp Source) → IsPlanRefusal registry (resolved registry (node op (more source no_more))) error) → plan ≡ resolved registry (source_function function source) → IsPlanRefusal registry plan error
-  function_below (Drop function) source plan error below same =
-      subst (λ p. IsPlanRefusal registry p error) (sym same) (below (drop_op (selector_trees function.to_drop) function.strict))
-
--- a simple projection that was added over its input
-pub drop_at : (schema : Columns) (selectors : List Source) (strict : Bool) (mid new : List IR) (item : IR) (n input below : ℕ) (own : Columns) → HasDistinctNames schema → drop_leaves schema selectors strict ≡ Ok own → (length own ≡ 0 → IsEmptyTableAt mid below) → (0 < length own → below ≡ input) → new ≡ mid ++ item ∷ [] → n ≡ length mid → plan_layer item ≡ layer (simple_projection_op own (Some own)) (below ∷ []) → IsDropAt schema selectors strict new n input own
-drop_at schema selectors strict mid new item n input below own distinct left nothing something grown at is =
-    let g : Grows mid new = record { added = item ∷ []; longer = grown } in
-    record { distinct = distinct; left = left; below = below; nothing = λ e. plan_stays mid new g below _ (nothing e); something = something; item = rw (grown, at) (plan_added mid item ∙ ap Some is) }

@@ -15,7 +15,7 @@ use Rattle.plan_types.proofs.ListLemmas.{item_left, map-map}
 use Rattle.plan_types.proofs.SchemaLemmas.{repeated_test}
 use Rattle.plan_dsl.specs.Registry.{Registry}
 use Rattle.plan_dsl.specs.Ops.{Expression}
-use Rattle.plan_dsl.specs.Aliases.{core, spelled}
+use Rattle.plan_dsl.specs.Aliases.{spelled}
 use Rattle.plan_dsl.specs.Literals.{settled}
 use Rattle.plan_dsl.specs.Names.{name_of}
 use Rattle.plan_dsl.specs.Plans.{GroupByWork, Named, named, group_by_op}
@@ -27,28 +27,30 @@ use Rattle.plan_dsl.specs.Expressions.{plain_tree, tree_of}
 use Rattle.plan_dsl.specs.declared.expr.Expr.{Expr}
 use Rattle.plan_dsl.proofs.ExpansionLemmas.{what_is_plain}
 use Rattle.plan_dsl.specs.Expansion.{expansions, key_names}
-use Rattle.plan_dsl.specs.Typing.{Typed, typing}
+use Rattle.plan_dsl.specs.Typing.{Typed}
 use Rattle.plan_dsl.proofs.GroupLemmas.{or_right}
 use Rattle.plan_dsl.proofs.RuleLemmas.{distinct_names, first_refused, group_repeated_names, no_keys_kind, no_types, repeated_name, second_refused}
 use Rattle.plan_arena.specs.declared.aexpr.AExpr.{AExpr}
 use Rattle.plan_arena.specs.declared.ir.IR.{IR}
 use Rattle.plan_arena.specs.Layers.{layer}
 use Rattle.plan_arena.specs.declared.expr_ir.ExprIR.{ExprIR}
-use Rattle.plan_arena.specs.Items.{Grows, named_node, plan_layer}
-use Rattle.plan_arena.proofs.ItemLemmas.{any_node, named_kept, plan_added}
+use Rattle.plan_arena.specs.Items.{DenoteNamed, named_node, plan_layer}
+use Rattle.plan_arena.proofs.ItemLemmas.{any_node, named_kept}
 use Rattle.plan_expand.specs.Refusals.{IsUnexpanded}
 use Rattle.plan_lower.proofs.SpelledLemmas.{typed_spelled}
 use Rattle.plan_infer.specs.KeptTypes.{AllKept, IsKept, IsRight, KeepsEntry, KeepsTyped, typed_of}
 use Rattle.plan_infer.specs.declared.type_table.Inferred.{Inferred}
 use Rattle.plan_infer.specs.declared.type_table.TypeTable.{TypeTable}
 use Rattle.plan_infer.proofs.TableLemmas.{keeps_one, kept_typing}
-use Rattle.plan_lower.specs.Groups.{GroupsTo, HasAggregates, HasExpandedGroups, HasGroups, IsAggregateRefusal, not_typed, twice, IsGroupRefusal, short, without_keys, of_keys, of_aggregates, IsUngrouped, keys_unexpanded, aggregates_unexpanded, not_grouped, group_column, group_columns_of, lowered_groups, named_in_groups}
-use Rattle.plan_lower.specs.Lowering.{IsGroupByAt}
+use Rattle.plan_lower.specs.Groups.{HasAggregates, HasExpandedGroups, HasGroups, IsAggregateRefusal, not_typed, twice, IsGroupRefusal, short, without_keys, of_keys, of_aggregates, IsUngrouped, keys_unexpanded, aggregates_unexpanded, not_grouped, group_column, group_columns_of, named_in_groups}
+use Rattle.plan_coerce.specs.Optimizer.{AreWrittenOut}
+use Rattle.plan_lower.specs.declared.conversion.asked.Asked.TheVariants.{NewName}
 use Rattle.plan_lower.specs.Nodes.{KeepsExpressions}
-use Rattle.plan_lower.specs.Outputs.{HasOutputs, IsLowered, Lowered, lowered_column, lowered_named}
-use Rattle.plan_lower.specs.Projection.{IsOutput, IsOutputRefusal, no_room, untyped, repeated, IsProjectionRefusal, out_of_memory as no_space, refused, Output, output_node, Projects}
+use Rattle.plan_lower.specs.Outputs.{HasOutputs, Lowered, lowered_column, lowered_named}
+use Rattle.plan_lower.specs.Projection.{IsOutput, IsProjectionRefusal, Output, output_node, Projects}
 use Rattle.plan_lower.proofs.BuiltLemmas.{unexpanded_then}
-use Rattle.plan_lower.proofs.WorkLemmas.{columns_are, names_are, only_types, outputs_against}
+use Rattle.plan_lower.proofs.ProjectionLemmas.{alike, has_lowered}
+use Rattle.plan_lower.proofs.WorkLemmas.{columns_are, names_against, names_are}
 use Rattle.plan_lower.specs.Works.{IsWorkAt, IsWorkRefusal, against_a_rule, lowered_names, lowered_output, unresolved, without_memory}
 
 -- ---- names
@@ -97,41 +99,24 @@ outputs_in_groups : (outputs : List Output) → named_in_groups (map output_node
 outputs_in_groups [] = refl
 outputs_in_groups (o ∷ os) = ap (λ l. output_group_column o ∷ l) (outputs_in_groups os)
 
-same_group_column : (registry : Registry) (schema : Columns) (l : Lowered) (o : Output) → l.tree ≡ o.tree → typing registry schema (settled (core l.tree)) ≡ Ok l.typed → typing registry schema (settled (core o.tree)) ≡ Ok o.typed → group_column l ≡ output_group_column o
-same_group_column registry schema l o tree left right =
-    let alike = ap (λ t. typing registry schema (settled (core t))) tree in
-    let typed : l.typed ≡ o.typed = cc in
-    λ i. (name_of (tree i), type_in_groups (typed i))
-
--- what stands for outputs has their columns in groups
-pub lowered_in_groups : (registry : Registry) (schema : Columns) (first : ℕ) (items : List AExpr) (lowered : List Lowered) (outputs : List Output) → map (λ (l : Lowered). l.tree) lowered ≡ map (λ (o : Output). o.tree) outputs → AllByRecursion (IsLowered registry schema) lowered → AllByRecursion (IsOutput registry schema first items) outputs → map group_column lowered ≡ map output_group_column outputs
-lowered_in_groups registry schema first items [] [] trees each all = refl
-lowered_in_groups registry schema first items (l ∷ ls) (o ∷ os) trees each all =
-    let tree : l.tree ≡ o.tree = cc in
-    let rest : map (λ (l : Lowered). l.tree) ls ≡ map (λ (o : Output). o.tree) os = cc in
-    let here = same_group_column registry schema l o tree each.0.typed all.0.typed in
-    let later = lowered_in_groups registry schema first items ls os rest each.1 all.1 in
-    λ i. here i ∷ later i
-lowered_in_groups registry schema first items [] (o ∷ os) trees each all = absurd cc
-lowered_in_groups registry schema first items (l ∷ ls) [] trees each all = absurd cc
-
 -- aggregates that were projected and coerced, with their columns in groups behind those of the keys
-pub has_aggregates : (registry : Registry) (schema : Columns) (first : ℕ) (old new : List AExpr) (table : TypeTable) (trees : List Expression) (nodes : List (Named ℕ)) (roots : List ℕ) (own keys whole : Columns) → (p : Projects registry schema first old trees nodes own) → HasOutputs registry schema new trees nodes own → roots ≡ map (λ (o : Output). o.node) p.outputs → IsRight registry schema old table → AllByRecursion (IsKept table) roots → ((typed : List Typed) → AllKept table roots typed → whole ≡ keys ++ named_in_groups nodes typed) → HasAggregates registry schema new trees nodes keys whole
-has_aggregates registry schema first old new table trees nodes roots own keys whole p h at right kept columns =
+pub has_aggregates : (registry : Registry) (schema : Columns) (first : ℕ) (old new : List AExpr) (table : TypeTable) (trees : List Expression) (nodes : List (Named ℕ)) (roots : List ℕ) (own keys whole : Columns) → (p : Projects registry schema (NewName Duplicate) first old trees nodes own) → AreWrittenOut registry schema first old new (map (λ (o : Output). o.node) p.outputs) → roots ≡ map (λ (o : Output). o.node) p.outputs → IsRight registry schema old table → AllByRecursion (IsKept table) roots → ((typed : List Typed) → AllKept table roots typed → whole ≡ keys ++ named_in_groups nodes typed) → HasAggregates registry schema new trees nodes keys whole
+has_aggregates registry schema first old new table trees nodes roots own keys whole p coerced at right kept columns =
+    let h = has_lowered registry schema first old new p.outputs p.each coerced.each in
     let typed = map (λ (o : Output). o.typed) p.outputs in
     let all = outputs_kept registry schema first old table right p.outputs p.each (subst (AllByRecursion (IsKept table)) at kept) in
     let found = columns typed (subst (λ ns. AllKept table ns typed) (sym at) all) in
-    let same = lowered_in_groups registry schema first old h.outputs p.outputs (h.selects.trees_are ∙ sym p.trees_are) h.selects.each p.each in
+    let same = alike (λ pair. (name_of pair.0, type_in_groups pair.1)) h.lowered p.outputs h.same in
     record {
-      outputs = h.outputs;
-      trees_are = h.selects.trees_are;
-      each = h.selects.each;
-      denotes = h.denotes;
+      outputs = h.lowered;
+      trees_are = alike (λ pair. pair.0) h.lowered p.outputs h.same ∙ p.trees_are;
+      each = h.each;
+      denotes = subst (λ ns. DenoteNamed new ns (map lowered_named h.lowered)) p.nodes_are h.denotes;
       columns_are = found ∙ ap (λ ns. keys ++ named_in_groups ns typed) (sym p.nodes_are) ∙ ap (λ l. keys ++ l) (outputs_in_groups p.outputs ∙ sym same);
     }
 
 -- the names of a projection's nodes are those of its expressions
-pub projected_names : (registry : Registry) (schema : Columns) (first : ℕ) (items : List AExpr) (trees : List Expression) (nodes : List (Named ℕ)) (own : Columns) → (p : Projects registry schema first items trees nodes own) → map (λ (n : Named ℕ). n.label.name) nodes ≡ map name_of trees
+pub projected_names : (registry : Registry) (schema : Columns) (first : ℕ) (items : List AExpr) (trees : List Expression) (nodes : List (Named ℕ)) (own : Columns) → (p : Projects registry schema (NewName Duplicate) first items trees nodes own) → map (λ (n : Named ℕ). n.label.name) nodes ≡ map name_of trees
 projected_names registry schema first items trees nodes own p =
     ap (map (λ (n : Named ℕ). n.label.name)) (sym p.nodes_are)
     ∙ map-map (λ (n : Named ℕ). n.label.name) output_node p.outputs
@@ -151,30 +136,30 @@ no_trees [] count long none = refl
 no_trees (x ∷ xs) count long none = absurd (grind arith)
 
 -- so are those of the columns of outputs
-pub column_names : (registry : Registry) (schema : Columns) (items : List AExpr) (trees : List Expression) (nodes : List (Named ℕ)) (own : Columns) → (h : HasOutputs registry schema items trees nodes own) → names_of own ≡ map name_of trees
+pub column_names : (registry : Registry) (schema : Columns) (items : List AExpr) (trees : List Expression) (nodes : List (Named ℕ)) (own : Columns) → (h : HasOutputs registry schema (NewName Duplicate) items trees nodes own) → names_of own ≡ map name_of trees
 column_names registry schema items trees nodes own h =
     ap names_of h.columns_are
     ∙ map-map (λ (c : Name × Ty). c.0) lowered_column h.outputs
     ∙ sym (map-map name_of (λ (l : Lowered). l.tree) h.outputs)
-    ∙ ap (map name_of) h.selects.trees_are
+    ∙ ap (map name_of) h.trees_are
 
 no_outputs : (outputs : List Lowered) (trees : List Expression) → map (λ (l : Lowered). l.tree) outputs ≡ trees → ¬ (trees ≡ []) → ¬ (outputs ≡ [])
 no_outputs outputs trees are some e = some (sym are ∙ ap (map (λ (l : Lowered). l.tree)) e)
 
 -- keys, and aggregates behind them
-pub has_groups : (registry : Registry) (schema : Columns) (items items' : List AExpr) (keys aggs : List Expression) (nodes others : List (Named ℕ)) (own whole : Columns) → KeepsExpressions items items' → HasOutputs registry schema items keys nodes own → HasAggregates registry schema items' aggs others own whole → HasDistinctNames whole → ¬ (keys ≡ []) → HasGroups registry schema items' keys aggs nodes others whole
+pub has_groups : (registry : Registry) (schema : Columns) (items items' : List AExpr) (keys aggs : List Expression) (nodes others : List (Named ℕ)) (own whole : Columns) → KeepsExpressions items items' → HasOutputs registry schema (NewName Duplicate) items keys nodes own → HasAggregates registry schema items' aggs others own whole → HasDistinctNames whole → ¬ (keys ≡ []) → HasGroups registry schema items' keys aggs nodes others whole
 has_groups registry schema items items' keys aggs nodes others own whole keeps h a distinct some =
     let columns = a.columns_are ∙ ap (λ l. l ++ map group_column a.outputs) h.columns_are in
     record {
       key_outputs = h.outputs;
       agg_outputs = a.outputs;
       groups = record {
-        keys_are = h.selects.trees_are;
+        keys_are = h.trees_are;
         aggs_are = a.trees_are;
-        each_key = h.selects.each;
+        each_key = h.each;
         each_agg = a.each;
         distinct = subst HasDistinctNames columns distinct;
-        some = no_outputs h.outputs keys h.selects.trees_are some;
+        some = no_outputs h.outputs keys h.trees_are some;
       };
       keys_denote = named_kept items items' keeps nodes (map lowered_named h.outputs) h.denotes;
       aggs_denote = a.denotes;
@@ -263,11 +248,6 @@ all_in_groups table items i keys whole past so_far typed all =
     let none = none_left (map named_node items) i (omega (arith, past, length-map items named_node)) in
     sym (append-nil whole) ∙ ap (λ ns. whole ++ named_in_groups ns (drop i typed)) (sym none) ∙ so_far typed all
 
--- a group-by that was added over its input
-pub groups_at : (registry : Registry) (schema : Columns) (items : List AExpr) (plans new : List IR) (item : IR) (n input : ℕ) (keys aggs : List Source) (nodes others : List (Named ℕ)) (own : Columns) → HasExpandedGroups registry schema items keys aggs nodes others own → new ≡ plans ++ item ∷ [] → n ≡ length plans → plan_layer item ≡ layer (group_by_op nodes others (Some own)) (input ∷ []) → IsGroupByAt registry schema items new n input keys aggs own
-groups_at registry schema items plans new item n input keys aggs nodes others own h grown at is =
-    record { nodes = nodes; others = others; has = h; item = rw (grown, at) (plan_added plans item ∙ ap Some is) }
-
 -- ---- what is built
 
 module _ (registry : Registry) where
@@ -287,33 +267,33 @@ module _ (registry : Registry) where
       distinct_names Duplicate (lowered_names (k ∷ ks) ++ lowered_names aggs) (group_columns_of (k ∷ ks) aggs) (group_names (k ∷ ks) aggs) distinct
 
   -- a group-by is a node over one input
-  pub groups_work : (items : List AExpr) (plans : List IR) (n input : ℕ) (schema own : Columns) (keys aggs : List Source) → IsGroupByAt registry schema items plans n input keys aggs own → IsWorkAt registry schema items plans n input GroupByWork (keys ∷ aggs ∷ []) own
-  groups_work items plans n input schema own keys aggs is =
-      let has = is.has.lowered in
+  pub groups_work : (items : List AExpr) (plans : List IR) (n input : ℕ) (schema own : Columns) (keys aggs : List Source) (nodes others : List (Named ℕ)) → HasExpandedGroups registry schema items keys aggs nodes others own → slice_get (map plan_layer plans) n ≡ Some (layer (group_by_op nodes others (Some own)) (input ∷ [])) → IsWorkAt registry schema items plans n input GroupByWork (keys ∷ aggs ∷ []) own
+  groups_work items plans n input schema own keys aggs nodes others is item =
+      let has = is.lowered in
       let front = columns_are has.key_outputs in
       let behind = group_columns has.agg_outputs in
       let first = has.groups.keys_are in
       let later = has.groups.aggs_are in
       record {
-        trees = is.has.trees ∷ is.has.aggregates ∷ [];
-        expanded = ap (λ r. then_ok r (over_keys schema aggs)) is.has.expanded ∙ ap (λ r. then_ok r (λ others. Ok (is.has.trees ∷ others ∷ []))) is.has.also;
+        trees = is.trees ∷ is.aggregates ∷ [];
+        expanded = ap (λ r. then_ok r (over_keys schema aggs)) is.expanded ∙ ap (λ r. then_ok r (λ found. Ok (is.trees ∷ found ∷ []))) is.also;
         own = GroupByWork;
         resolved = refl;
         outputs = has.key_outputs ∷ has.agg_outputs ∷ [];
         trees_are = λ i. first i ∷ later i ∷ [];
         unbroken = record {
           each = (has.groups.each_key, (has.groups.each_agg, tt));
-          types = ap (λ l. l ++ (flat_map {X = Lowered} {A = ErrorKind} (λ o. []) has.agg_outputs ++ [])) (no_types has.key_outputs) ∙ only_types has.agg_outputs;
+          types = ap (λ l. l ++ (flat_map {X = Lowered} {A = ErrorKind} (λ o. []) has.agg_outputs ++ [])) (no_types has.key_outputs) ∙ append-nil _ ∙ no_types has.agg_outputs;
           kinds = group_unbroken schema has.key_outputs has.agg_outputs has.groups.distinct has.groups.some;
         };
         whole = tt;
         columns_are = has.columns_are ∙ (λ i. sym front i ++ sym behind i);
-        nodes = is.nodes ∷ is.others ∷ [];
+        nodes = nodes ∷ others ∷ [];
         denote = (has.keys_denote, (has.aggs_denote, tt));
         below = input;
         nothing = λ e. absurd cc;
         something = λ e. refl;
-        item = is.item;
+        item = item;
       }
 
   -- ---- refusals
@@ -334,14 +314,14 @@ module _ (registry : Registry) where
       of_kind : (kind : ErrorKind) → error ≡ at_top kind → Contains (broken_kinds registry (group_by_op (map named trees) (map named others) None) (Some schema ∷ [])) kind → IsWorkRefusal registry schema GroupByWork (keys ∷ aggs ∷ []) error
       of_kind kind e breaks = against_a_rule (trees ∷ others ∷ []) GroupByWork kind both_expanded refl e breaks
 
-      keys_against : IsProjectionRefusal registry schema Duplicate trees error → IsWorkRefusal registry schema GroupByWork (keys ∷ aggs ∷ []) error
+      keys_against : IsProjectionRefusal registry schema (NewName Duplicate) trees error → IsWorkRefusal registry schema GroupByWork (keys ∷ aggs ∷ []) error
       keys_against r =
-          ⊎_elim (λ e. without_memory e) (λ a. of_kind a.0 a.1 a.2) (outputs_against registry schema GroupByWork Duplicate (λ os. os ∷ map named others ∷ []) (λ front o back kind. first_refused registry schema GroupByWork None front o back (map named others ∷ []) kind) (λ before front o back names found.
+          ⊎_elim (λ e. without_memory e) (λ a. of_kind a.0 a.1 a.2) (names_against registry schema GroupByWork Duplicate (λ os. os ∷ map named others ∷ []) (λ front o back kind. first_refused registry schema GroupByWork None front o back (map named others ∷ []) kind) (λ before front o back names found.
           group_repeated_names registry schema None (front ++ o ∷ back) (map named others) (repeats_left (names_in (front ++ o ∷ back)) (names_in (map named others)) (repeated_name registry schema before front o back names found))) trees error r)
 
-      aggregates_against : IsProjectionRefusal registry schema Duplicate others error → IsWorkRefusal registry schema GroupByWork (keys ∷ aggs ∷ []) error
+      aggregates_against : IsProjectionRefusal registry schema (NewName Duplicate) others error → IsWorkRefusal registry schema GroupByWork (keys ∷ aggs ∷ []) error
       aggregates_against r =
-          ⊎_elim (λ e. without_memory e) (λ a. of_kind a.0 a.1 a.2) (outputs_against registry schema GroupByWork Duplicate (λ os. map named trees ∷ os ∷ []) (λ front o back kind. second_refused registry schema GroupByWork None (map named trees) front o back [] kind) (λ before front o back names found.
+          ⊎_elim (λ e. without_memory e) (λ a. of_kind a.0 a.1 a.2) (names_against registry schema GroupByWork Duplicate (λ os. map named trees ∷ os ∷ []) (λ front o back kind. second_refused registry schema GroupByWork None (map named trees) front o back [] kind) (λ before front o back names found.
           group_repeated_names registry schema None (map named trees) (front ++ o ∷ back) (repeats_right (names_in (map named trees)) (names_in (front ++ o ∷ back)) (repeated_name registry schema before front o back names found))) others error r)
 
       behind_keys : IsAggregateRefusal registry schema (map name_of trees) others error → IsWorkRefusal registry schema GroupByWork (keys ∷ aggs ∷ []) error

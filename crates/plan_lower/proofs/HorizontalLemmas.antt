@@ -18,7 +18,7 @@ use Rattle.plan_dsl.specs.declared.function_expr.FunctionExpr.{FunctionExpr}
 use Rattle.plan_dsl.specs.declared.function_expr.FunctionExpr.TheVariants.{AllHorizontal, AnyHorizontal, FieldByIndex}
 use Rattle.plan_dsl.specs.declared.literal.LiteralValue.{LiteralValue}
 use Rattle.plan_dsl.specs.declared.operator.Operator.{Operator}
-use Rattle.plan_dsl.specs.Aliases.{all_pruned, chain, chained, core, is_written_out, pruned, put_together, spelled, written_out}
+use Rattle.plan_dsl.specs.Aliases.{all_pruned, chain, chained, is_written_out, pruned, put_together, spelled, written_out}
 use Rattle.plan_dsl.specs.Expressions.{function_source, plain_tree, plain_trees, tree_of, trees_of}
 use Rattle.plan_dsl.specs.Functions.{is_expanded_function}
 use Rattle.plan_dsl.specs.Names.{Label, label_of, op_label}

@@ -1,4 +1,6 @@
+pub mod AddedLemmas
 pub mod BuiltLemmas
+mod DistinctLemmas
 pub mod DropLemmas
 pub mod ExamplePlanLemmas
 pub mod ExpressionFieldLemmas
@@ -10,6 +12,7 @@ pub mod PlanLemmas
 pub mod ProjectionLemmas
 pub mod RecordedLemmas
 mod RecordingLemmas
+mod SortLemmas
 mod SpelledLemmas
 mod StepLemmas
 mod TopNumberLemmas

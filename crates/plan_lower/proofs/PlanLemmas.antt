@@ -1,5 +1,5 @@
 -- Lowering of plans, node by node.
-use Rattle.std.proofs.Common.{◌≡◌, ◌⊎◌, ℕ, ◌<◌, List, [], ◌∷◌, ◌++◌, length, map, true, false, Option, Some, None, Ok, slice_get, refl, sym, ap, ◌∙◌, subst, arith, ⊎_elim}
+use Rattle.std.proofs.Common.{◌≡◌, ◌⊎◌, ℕ, ◌<◌, List, [], ◌∷◌, length, map, true, false, Option, Some, None, Ok, slice_get, refl, sym, ap, ◌∙◌, subst, arith, append-nil, ⊎_elim}
 use Rattle.plan_types.specs.Schemas.{Columns, HasDistinctNames, all_known}
 use Rattle.plan_types.specs.declared.error.ErrorKind.TheVariants.{Duplicate, InvalidOperation, ComputeError, NoMemory}
 use Rattle.plan_types.specs.Errors.{no_memory, IsMemoryOr}
@@ -7,13 +7,12 @@ use Rattle.plan_types.specs.declared.error.PlanError.{PlanError}
 use Rattle.plan_dsl.specs.Registry.{Registry}
 use Rattle.plan_dsl.specs.Trees.{node, no_more, more}
 use Rattle.plan_dsl.specs.Ops.{Expression}
-use Rattle.plan_dsl.specs.Plans.{PlanOp, Plan, SourcePlan, Named, named, Work, SelectWork, HStackWork, FilterWork, source_filter, scan_op, select_op, hstack_op, filter_op}
+use Rattle.plan_dsl.specs.Plans.{PlanOp, Plan, SourcePlan, Named, SelectWork, HStackWork, FilterWork, source_filter, scan_op, select_op, hstack_op}
 use Rattle.plan_dsl.specs.PlanRules.{with_columns}
 use Rattle.plan_dsl.specs.Sources.{Source}
 use Rattle.plan_dsl.specs.Refusals.{then_ok, with_kinds}
-use Rattle.plan_dsl.specs.Expansion.{expansions, predicate_expansion}
-use Rattle.plan_dsl.specs.Resolving.{expanded_each, in_front_of, over_expanded, resolved}
-use Rattle.plan_expand.specs.Refusals.{IsUnexpanded}
+use Rattle.plan_dsl.specs.Expansion.{predicate_expansion}
+use Rattle.plan_dsl.specs.Resolving.{over_expanded, resolved}
 use Rattle.plan_dsl.proofs.ResolvingLemmas.{filter_resolved}
 use Rattle.plan_dsl.proofs.RuleLemmas.{distinct_names, first_refused, hstack_repeated_name, select_repeated_name}
 use Rattle.plan_dsl.specs.PlanKernels.{gives_nothing}
@@ -25,25 +24,21 @@ use Rattle.plan_arena.specs.Denotation.{Denotes}
 use Rattle.plan_arena.specs.Layers.{layer}
 use Rattle.plan_arena.specs.Items.{HoldsPlan, DenotesPlan, DenoteNamed, Grows, named_node, plan_layer}
 use Rattle.plan_arena.proofs.DenotationLemmas.{denotes_one}
-use Rattle.plan_arena.proofs.ItemLemmas.{plan_added, plan_stays, plan_tree_kept, plan_laws}
+use Rattle.plan_arena.proofs.ItemLemmas.{plan_tree_kept, plan_laws}
 use Rattle.plan_arena.proofs.RunLemmas.{runs_soundly}
 use Rattle.plan_bounds.specs.LoweredPlans.{IsWidePlan}
 use Rattle.plan_lower.specs.Nodes.{KeepsExpressions}
 use Rattle.plan_lower.specs.Outputs.{Lowered, lowered_named, lowered_column, HasExpandedOutputs}
 use Rattle.plan_lower.specs.Works.{IsWorkAt, IsWorkRefusal, against_a_rule, lowered_names, unresolved, without_memory}
-use Rattle.plan_lower.proofs.WorkLemmas.{columns_are, names_are, only_types, outputs_against}
+use Rattle.plan_lower.proofs.WorkLemmas.{columns_are, list_expanded, list_unexpanded, names_against, names_are, types_against}
 use Rattle.plan_lower.specs.Predicates.{HasExpandedPredicate, IsUnfiltered, not_expanded as unreduced, no_predicate, lowered_filter}
 use Rattle.plan_lower.specs.Projection.{IsUnprojected, not_expanded, not_projected}
-use Rattle.plan_lower.specs.Lowering.{IsBuilt, IsPlanRefusal, IsSelectAt, IsHStackAt, IsFilterAt, StandsFor, IsEmptyTableAt, AreFilters, IsTyped, HasLoweredTop, HasBoundedTop, IsSplit, IsSound, GivesSameFrame}
+use Rattle.plan_lower.specs.Lowering.{IsBuilt, IsPlanRefusal, IsFilterAt, StandsFor, IsEmptyTableAt, AreFilters, IsTyped, HasLoweredTop, HasBoundedTop, IsSplit, IsSound, GivesSameFrame}
 use Rattle.plan_properties.specs.Splitting.{split_predicate}
+use Rattle.plan_lower.specs.declared.conversion.asked.Asked.TheVariants.{TruthValue}
 use Rattle.plan_lower.proofs.FilterLemmas.{filters_denoted}
-use Rattle.plan_lower.proofs.BuiltLemmas.{unexpanded_then, unexpanded_kind, unresolved_refused, scan_built, scan_refused_at, filter_built, filter_refused_at, refused_in_input}
-
-as_many : (items : List AExpr) (ns : List (Named ℕ)) (outputs : List Lowered) → DenoteNamed items ns (map lowered_named outputs) → length ns ≡ length outputs
-as_many items [] [] d = refl
-as_many items (n ∷ ns) (o ∷ os) d = let rest = as_many items ns os d.2 in omega arith
-as_many items [] (o ∷ os) d = absurd d
-as_many items (n ∷ ns) [] d = absurd d
+use Rattle.plan_lower.proofs.ProjectionLemmas.{as_many}
+use Rattle.plan_lower.proofs.BuiltLemmas.{unexpanded_then, unexpanded_kind, scan_built, scan_refused_at, filter_built, refused_in_input}
 
 -- a select gives nothing where it has no outputs
 no_outputs : (outputs : List Lowered) → gives_nothing SelectWork (lowered_names outputs ∷ []) ≡ true → length outputs ≡ 0
@@ -54,34 +49,11 @@ some_outputs : (outputs : List Lowered) → gives_nothing SelectWork (lowered_na
 some_outputs [] e = absurd cc
 some_outputs (o ∷ os) e = omega arith
 
--- a select that was added over its input
-pub select_at : (registry : Registry) (schema : Columns) (items : List AExpr) (mid new : List IR) (item : IR) (n input below : ℕ) (sources : List Source) (nodes : List (Named ℕ)) (own : Columns) → HasExpandedOutputs registry schema items sources nodes own → (length nodes ≡ 0 → IsEmptyTableAt mid below) → (0 < length nodes → below ≡ input) → new ≡ mid ++ item ∷ [] → n ≡ length mid → plan_layer item ≡ layer (select_op nodes (Some own)) (below ∷ []) → IsSelectAt registry schema items new n input sources own
-select_at registry schema items mid new item n input below sources nodes own h nothing something grown at is =
-    let g : Grows mid new = record { added = item ∷ []; longer = grown } in
-    record {
-      nodes = nodes;
-      has = h;
-      below = below;
-      nothing = λ e. plan_stays mid new g below _ (nothing e);
-      something = something;
-      item = rw (grown, at) (plan_added mid item ∙ ap Some is);
-    }
-
--- an hstack that was added over its input
-pub hstack_at : (registry : Registry) (schema : Columns) (items : List AExpr) (plans new : List IR) (item : IR) (n input : ℕ) (sources : List Source) (nodes : List (Named ℕ)) (own whole : Columns) → HasExpandedOutputs registry schema items sources nodes own → whole ≡ with_columns schema own → new ≡ plans ++ item ∷ [] → n ≡ length plans → plan_layer item ≡ layer (hstack_op nodes (Some whole)) (input ∷ []) → IsHStackAt registry schema items new n input sources whole
-hstack_at registry schema items plans new item n input sources nodes own whole h with_own grown at is =
-    record { nodes = nodes; own = own; has = h; whole = with_own; item = rw (grown, at) (plan_added plans item ∙ ap Some is) }
-
 -- filters that were added over their input
 pub filter_at : (registry : Registry) (schema : Columns) (items : List AExpr) (new : List IR) (n input : ℕ) (source : Source) (predicate : Named ℕ) (parts : List ExprIR) → HasExpandedPredicate registry schema items source predicate
     → ((whole : Named Expression) → DenoteNamed items (predicate ∷ []) (whole ∷ []) → DenoteNamed items (map named_node parts) (split_predicate whole)) → AreFilters new n (map named_node parts) input → IsFilterAt registry schema items new n input source
 filter_at registry schema items new n input source predicate parts h splits filters =
     record { predicate = predicate; has = h; parts = map named_node parts; denote = splits (lowered_named h.lowered.output) h.lowered.denotes; filters = filters }
-
--- what one list of expressions can't be expanded to, its node can't be resolved to
-only_unexpanded : (registry : Registry) (work : Work) (schema : Columns) (sources : List Source) (error : PlanError) → IsUnexpanded (expansions [] schema sources) error → IsUnexpanded (then_ok (expanded_each schema (sources ∷ [])) (over_expanded (Ok work))) error
-only_unexpanded registry work schema sources error r =
-    unexpanded_then (expanded_each schema (sources ∷ [])) (over_expanded (Ok work)) error (unexpanded_then (expansions [] schema sources) (λ trees. in_front_of trees (Ok [])) error r)
 
 module _ (registry : Registry) where
   -- a scan that was added
@@ -99,86 +71,87 @@ module _ (registry : Registry) where
   scan_refused table schema plan error h same =
       subst (λ p. IsPlanRefusal registry p error) (sym same) (scan_refused_at registry table schema error h)
 
-  module _ (items : List AExpr) (plans : List IR) (n input : ℕ) (schema own : Columns) (sources : List Source) where
-    -- a select is a node over one input, and so is an hstack
-    pub select_work : IsSelectAt registry schema items plans n input sources own → IsWorkAt registry schema items plans n input SelectWork (sources ∷ []) own
-    select_work is =
-        let has = is.has.lowered in
+  module _ (items : List AExpr) (plans : List IR) (n input : ℕ) (schema own : Columns) (sources : List Source) (nodes : List (Named ℕ)) where
+    -- a select of what stands for expressions is a node over one input, and so is an hstack
+    pub select_work : (below : ℕ) → HasExpandedOutputs registry schema Duplicate items sources nodes own → (length nodes ≡ 0 → IsEmptyTableAt plans below) → (0 < length nodes → below ≡ input) → slice_get (map plan_layer plans) n ≡ Some (layer (select_op nodes (Some own)) (below ∷ [])) → IsWorkAt registry schema items plans n input SelectWork (sources ∷ []) own
+    select_work below is nothing something item =
+        let has = is.lowered in
         let outputs = has.outputs in
-        let many = as_many items is.nodes outputs has.denotes in
+        let many = as_many items nodes outputs has.denotes in
         record {
-          trees = is.has.trees ∷ [];
-          expanded = ap (λ r. then_ok r (λ trees. in_front_of trees (Ok []))) is.has.expanded;
+          trees = is.trees ∷ [];
+          expanded = list_expanded schema sources is.trees is.expanded;
           own = SelectWork;
           resolved = refl;
           outputs = outputs ∷ [];
-          trees_are = ap (λ trees. trees ∷ []) has.selects.trees_are;
-          unbroken = record { each = (has.selects.each, tt); types = only_types outputs; kinds = distinct_names Duplicate (lowered_names outputs) (map lowered_column outputs) (names_are outputs) has.selects.distinct };
+          trees_are = ap (λ trees. trees ∷ []) has.trees_are;
+          unbroken = record { each = (has.each, tt); types = append-nil _ ∙ has.types; kinds = distinct_names Duplicate (lowered_names outputs) (map lowered_column outputs) (names_are outputs) has.distinct };
           whole = tt;
           columns_are = has.columns_are ∙ sym (columns_are outputs);
-          nodes = is.nodes ∷ [];
+          nodes = nodes ∷ [];
           denote = (has.denotes, tt);
-          below = is.below;
-          nothing = λ e. let none = no_outputs outputs e in is.nothing (omega (arith, many, none));
-          something = λ e. let some = some_outputs outputs e in is.something (omega (arith, many, some));
-          item = is.item;
+          below = below;
+          nothing = λ e. let none = no_outputs outputs e in nothing (omega (arith, many, none));
+          something = λ e. let some = some_outputs outputs e in something (omega (arith, many, some));
+          item = item;
         }
 
-    pub hstack_work : IsHStackAt registry schema items plans n input sources own → IsWorkAt registry schema items plans n input HStackWork (sources ∷ []) own
-    hstack_work is =
-        let has = is.has.lowered in
+    pub hstack_work : (columns : Columns) → HasExpandedOutputs registry schema ComputeError items sources nodes columns → own ≡ with_columns schema columns → slice_get (map plan_layer plans) n ≡ Some (layer (hstack_op nodes (Some own)) (input ∷ [])) → IsWorkAt registry schema items plans n input HStackWork (sources ∷ []) own
+    hstack_work columns is whole item =
+        let has = is.lowered in
         let outputs = has.outputs in
         record {
-          trees = is.has.trees ∷ [];
-          expanded = ap (λ r. then_ok r (λ trees. in_front_of trees (Ok []))) is.has.expanded;
+          trees = is.trees ∷ [];
+          expanded = list_expanded schema sources is.trees is.expanded;
           own = HStackWork;
           resolved = refl;
           outputs = outputs ∷ [];
-          trees_are = ap (λ trees. trees ∷ []) has.selects.trees_are;
-          unbroken = record { each = (has.selects.each, tt); types = only_types outputs; kinds = distinct_names ComputeError (lowered_names outputs) (map lowered_column outputs) (names_are outputs) has.selects.distinct };
+          trees_are = ap (λ trees. trees ∷ []) has.trees_are;
+          unbroken = record { each = (has.each, tt); types = append-nil _ ∙ has.types; kinds = distinct_names ComputeError (lowered_names outputs) (map lowered_column outputs) (names_are outputs) has.distinct };
           whole = tt;
-          columns_are = is.whole ∙ ap (with_columns schema) (has.columns_are ∙ sym (columns_are outputs));
-          nodes = is.nodes ∷ [];
+          columns_are = whole ∙ ap (with_columns schema) (has.columns_are ∙ sym (columns_are outputs));
+          nodes = nodes ∷ [];
           denote = (has.denotes, tt);
           below = input;
           nothing = λ e. absurd cc;
           something = λ e. refl;
-          item = is.item;
+          item = item;
         }
 
-  module _ (schema : Columns) (sources : List Source) (error : PlanError) where
+  module _ (schema : Columns) (error : PlanError) where
     -- and so are their refusals
-    pub select_refusal : IsUnprojected registry schema Duplicate sources error → IsWorkRefusal registry schema SelectWork (sources ∷ []) error
-    select_refusal (not_expanded r) = unresolved (only_unexpanded registry SelectWork schema sources error r)
-    select_refusal (not_projected trees is r) =
-        ⊎_elim (λ e. without_memory e) (λ a. against_a_rule (trees ∷ []) SelectWork a.0 (ap (λ r. then_ok r (λ trees. in_front_of trees (Ok []))) is) refl a.1 a.2) (outputs_against registry schema SelectWork Duplicate (λ os. os ∷ []) (λ front o back kind. first_refused registry schema SelectWork None front o back [] kind) (select_repeated_name registry schema None) trees error r)
+    pub select_refusal : (sources : List Source) → IsUnprojected registry schema Duplicate sources error → IsWorkRefusal registry schema SelectWork (sources ∷ []) error
+    select_refusal sources (not_expanded r) = unresolved (list_unexpanded schema sources (Ok SelectWork) error r)
+    select_refusal sources (not_projected trees is r) =
+        ⊎_elim (λ e. without_memory e) (λ a. against_a_rule (trees ∷ []) SelectWork a.0 (list_expanded schema sources trees is) refl a.1 a.2) (names_against registry schema SelectWork Duplicate (λ os. os ∷ []) (λ front o back kind. first_refused registry schema SelectWork None front o back [] kind) (select_repeated_name registry schema None) trees error r)
 
-    pub hstack_refusal : IsUnprojected registry schema ComputeError sources error → IsWorkRefusal registry schema HStackWork (sources ∷ []) error
-    hstack_refusal (not_expanded r) = unresolved (only_unexpanded registry HStackWork schema sources error r)
-    hstack_refusal (not_projected trees is r) =
-        ⊎_elim (λ e. without_memory e) (λ a. against_a_rule (trees ∷ []) HStackWork a.0 (ap (λ r. then_ok r (λ trees. in_front_of trees (Ok []))) is) refl a.1 a.2) (outputs_against registry schema HStackWork ComputeError (λ os. os ∷ []) (λ front o back kind. first_refused registry schema HStackWork None front o back [] kind) (hstack_repeated_name registry schema None) trees error r)
+    pub hstack_refusal : (sources : List Source) → IsUnprojected registry schema ComputeError sources error → IsWorkRefusal registry schema HStackWork (sources ∷ []) error
+    hstack_refusal sources (not_expanded r) = unresolved (list_unexpanded schema sources (Ok HStackWork) error r)
+    hstack_refusal sources (not_projected trees is r) =
+        ⊎_elim (λ e. without_memory e) (λ a. against_a_rule (trees ∷ []) HStackWork a.0 (list_expanded schema sources trees is) refl a.1 a.2) (names_against registry schema HStackWork ComputeError (λ os. os ∷ []) (λ front o back kind. first_refused registry schema HStackWork None front o back [] kind) (hstack_repeated_name registry schema None) trees error r)
+
+    -- and so is that of a filter, where its predicate is refused
+    pub filter_refusal : (source : Source) → IsUnfiltered registry schema source error → IsWorkRefusal registry schema FilterWork ((source ∷ []) ∷ []) error
+    filter_refusal source (unreduced r) =
+        let one = with_kinds (predicate_expansion schema source) in
+        unresolved (unexpanded_then (then_ok one (λ tree. Ok ((tree ∷ []) ∷ []))) (over_expanded (Ok FilterWork)) error (unexpanded_then one (λ tree. Ok ((tree ∷ []) ∷ [])) error (unexpanded_kind (predicate_expansion schema source) error r)))
+    filter_refusal source (no_predicate tree is r) =
+        let expanded = ap (λ found. then_ok (with_kinds found) (λ one. Ok ((one ∷ []) ∷ []))) is in
+        ⊎_elim (λ e. without_memory e) (λ a. against_a_rule ((tree ∷ []) ∷ []) FilterWork a.0 expanded refl a.1 a.2) (types_against registry schema FilterWork TruthValue (λ before name typed. refl) (tree ∷ []) error r)
 
   -- a filter over what its input becomes
-  pub filter_stands : (items items' : List AExpr) (plans new : List IR) (input n : ℕ) (schema own : Columns) (predicate : Source) (source : SourcePlan) (plan : Plan) → KeepsExpressions items items' → Grows plans new → StandsFor registry items plans input schema (resolved registry source) → IsFilterAt registry schema items' new n input predicate → own ≡ schema → plan ≡ resolved registry (source_filter predicate source) → StandsFor registry items' new n own plan
-  filter_stands items items' plans new input n schema own predicate source plan keeps grows s is copy same =
+  pub filter_stands : (items items' : List AExpr) (plans new : List IR) (input n : ℕ) (schema own : Columns) (predicate : Source) (source : SourcePlan) → KeepsExpressions items items' → Grows plans new → StandsFor registry items plans input schema (resolved registry source) → IsFilterAt registry schema items' new n input predicate → own ≡ schema → StandsFor registry items' new n own (resolved registry (source_filter predicate source))
+  filter_stands items items' plans new input n schema own predicate source keeps grows s is copy =
       let has = is.has.lowered in
       let output = has.output in
       let lowered = lowered_filter output s.lowered in
-      let there = same ∙ filter_resolved registry predicate is.has.tree source schema s.built.source_schema is.has.expanded in
+      let there = filter_resolved registry predicate is.has.tree source schema s.built.source_schema is.has.expanded in
       let built = filter_built registry (resolved registry source) s.lowered schema is.has.tree output s.built has.filters in
       record {
         lowered = lowered;
         denotes = filters_denoted items' new is.parts (split_predicate (lowered_named output)) n input s.lowered is.filters is.denote (plan_tree_kept items items' plans new keeps grows input s.lowered s.denotes);
-        built = subst (λ c. IsBuilt registry plan lowered c) (sym copy) (subst (λ p. IsBuilt registry p lowered schema) (sym there) built);
+        built = subst (λ c. IsBuilt registry (resolved registry (source_filter predicate source)) lowered c) (sym copy) (subst (λ p. IsBuilt registry p lowered schema) (sym there) built);
       }
-
-  -- a refusal of a filter's predicate
-  pub filter_refused : (items : List AExpr) (plans : List IR) (input : ℕ) (schema : Columns) (predicate : Source) (source : SourcePlan) (plan : Plan) (error : PlanError) → StandsFor registry items plans input schema (resolved registry source) → IsUnfiltered registry schema predicate error → plan ≡ resolved registry (source_filter predicate source) → IsPlanRefusal registry plan error
-  filter_refused items plans input schema predicate source plan error s (unreduced r) same =
-      unresolved_refused registry (filter_op predicate) source schema plan error s.built.source_schema (unexpanded_then (then_ok (with_kinds (predicate_expansion schema predicate)) (λ tree. Ok ((tree ∷ []) ∷ []))) (over_expanded (Ok FilterWork)) error (unexpanded_then (with_kinds (predicate_expansion schema predicate)) (λ tree. Ok ((tree ∷ []) ∷ [])) error (unexpanded_kind (predicate_expansion schema predicate) error r))) same
-  filter_refused items plans input schema predicate source plan error s (no_predicate tree is r) same =
-      let there = same ∙ filter_resolved registry predicate tree source schema s.built.source_schema is in
-      subst (λ p. IsPlanRefusal registry p error) (sym there) (filter_refused_at registry (resolved registry source) schema tree error s.built.source_schema r)
 
   -- a refusal of a node's only input
   pub refused_below : (op : PlanOp (Named Expression)) (source plan : Plan) (inner error : PlanError) → IsPlanRefusal registry source inner → (error ≡ no_memory) ⊎ (¬ (inner.kind ≡ NoMemory) × (error ≡ record { kind = inner.kind; place = 0 ∷ inner.place })) → plan ≡ node op (more source no_more) → IsPlanRefusal registry plan error

@@ -1,5 +1,5 @@
 -- Expressions with their horizontals written out, beside those that have them as nodes.
-use Rattle.std.proofs.Common.{◌≡◌, ◌≤◌, ◌&&◌, ℕ, suc, nat_lt, Bool, true, false, not, List, [], Ok, Err, refl, sym, ap, ◌∙◌, arith}
+use Rattle.std.proofs.Common.{◌≡◌, ◌≤◌, ◌&&◌, suc, nat_lt, Bool, true, false, not, List, [], Ok, Err, refl, sym, ap, ◌∙◌, arith}
 use Rattle.std.proofs.lemmas.Bool.{and_parts, false≢true, ltb-false, not-true}
 use Rattle.plan_types.specs.Types.{Truth}
 use Rattle.plan_types.specs.Errors.{IsRefusal, at_top, no_room, broken}

@@ -1,12 +1,13 @@
 -- Nodes over one input, whatever they do: what is built over an input that is built, what stands for a query's node, and why
 -- one isn't lowered.
-use Rattle.std.proofs.Common.{◌≡◌, ◌⊎◌, inl, inr, ℕ, List, [], ◌∷◌, ◌++◌, map, Bool, true, false, is_some, Option, Some, None, Ok, Err, cond, slice_get, refl, sym, ap, ◌∙◌, subst, ⊎_elim}
-use Rattle.std.specs.List.{AllByRecursion, Contains, flat_map}
-use Rattle.std.proofs.lemmas.List.{append-nil, map-append}
+use Rattle.std.proofs.Common.{◌≡◌, ◌⊎◌, inl, inr, ℕ, List, [], ◌∷◌, ◌++◌, map, Bool, true, false, is_some, Option, Some, None, Result, Ok, Err, cond, refl, sym, ap, ◌∙◌, subst}
+use Rattle.std.specs.List.{AllByRecursion, Contains}
+use Rattle.std.proofs.lemmas.List.{map-append}
+use Rattle.std.proofs.lemmas.List.Elements.{Contains-append_left, Contains-push}
 use Rattle.plan_types.specs.Errors.{no_memory, at_top}
-use Rattle.plan_types.specs.Outcomes.{Outcome, Meets}
-use Rattle.plan_types.specs.Frames.{Frame, IsFrameOf}
-use Rattle.plan_types.specs.Schemas.{Name, Columns, HasDistinctNames, names_of, type_at}
+use Rattle.plan_types.specs.Outcomes.{Outcome}
+use Rattle.plan_types.specs.Frames.{Frame}
+use Rattle.plan_types.specs.Schemas.{Name, Columns, names_of, type_at}
 use Rattle.plan_types.specs.Types.{Ty}
 use Rattle.plan_types.specs.declared.error.ErrorKind.{ErrorKind}
 use Rattle.plan_types.specs.declared.error.PlanError.{PlanError}
@@ -17,16 +18,18 @@ use Rattle.plan_dsl.specs.Names.{name_of}
 use Rattle.plan_dsl.specs.Ops.{Expression}
 use Rattle.plan_dsl.specs.PlanKernels.{gives_nothing, plan_kernel}
 use Rattle.plan_dsl.specs.PlanMeaning.{by_meaning, source_meaning, FitsPlan}
-use Rattle.plan_dsl.specs.PlanRules.{TypedOutput, broken_kinds, columns_of, keeps_schema, names_in, plan_rule, schema_of, type_kinds, work_kinds, work_schema}
+use Rattle.plan_dsl.specs.PlanRules.{TypedOutput, broken_kinds, columns_of, keeps_schema, kind_where, list_type_kinds, names_in, plan_rule, schema_of, type_kinds, typed_kinds}
 use Rattle.plan_dsl.specs.Plans.{Named, OverKind, Plan, PlanOp, SelectWork, SimpleProjectionWork, SourcePlan, Work, empty_table, expressions_of, named, over_input, over_op, scan_op, select_op, simple_projection_op, source_over}
 use Rattle.plan_dsl.specs.Registry.{Registry}
-use Rattle.plan_dsl.specs.Resolving.{resolved}
+use Rattle.plan_dsl.specs.Expansion.{expansions}
+use Rattle.plan_dsl.specs.Refusals.{then_ok}
+use Rattle.plan_dsl.specs.Resolving.{expanded_each, in_front_of, over_expanded, resolved}
 use Rattle.plan_dsl.specs.Sources.{Source}
 use Rattle.plan_dsl.specs.Trees.{node, no_more, more}
-use Rattle.plan_dsl.specs.Typing.{typing}
-use Rattle.plan_dsl.proofs.KernelLemmas.{AgreeOn, ListsAgreeOn, lists_agree, over_agrees}
+use Rattle.plan_dsl.specs.Typing.{Typed, typing}
+use Rattle.plan_dsl.proofs.KernelLemmas.{ListsAgreeOn, lists_agree, over_agrees}
 use Rattle.plan_dsl.proofs.ResolvingLemmas.{work_resolved}
-use Rattle.plan_dsl.proofs.RuleLemmas.{no_types, work_has_schema}
+use Rattle.plan_dsl.proofs.RuleLemmas.{first_refused, kinds_of_one, types_refused, work_has_schema}
 use Rattle.plan_arena.specs.declared.aexpr.AExpr.{AExpr}
 use Rattle.plan_arena.specs.declared.ir.IR.{IR}
 use Rattle.plan_arena.specs.Denotation.{Denotes}
@@ -36,13 +39,17 @@ use Rattle.plan_arena.proofs.ItemLemmas.{plan_tree_kept}
 use Rattle.plan_bounds.specs.Bounds.{IsBounded}
 use Rattle.plan_bounds.specs.LoweredPlans.{AreWide}
 use Rattle.plan_bounds.proofs.BoundLemmas.{AllWithin, all_within, nothing_within, over_nothing}
+use Rattle.plan_expand.specs.Refusals.{IsUnexpanded}
 use Rattle.plan_properties.specs.Splitting.{IsWhole}
+use Rattle.plan_lower.specs.declared.conversion.asked.Asked.{Asked}
+use Rattle.plan_lower.specs.declared.conversion.asked.Asked.TheVariants.{NewName}
+use Rattle.plan_lower.specs.Asked.{asked_kinds}
 use Rattle.plan_lower.specs.Lowering.{IsBuilt, IsEmptyTableAt, IsPlanRefusal, StandsFor, out_of_memory}
 use Rattle.plan_lower.specs.Nodes.{KeepsExpressions}
 use Rattle.plan_lower.specs.Outputs.{IsLowered, Lowered, lowered_column, lowered_named}
-use Rattle.plan_lower.specs.Projection.{IsOutputRefusal, IsProjectionRefusal, no_room, out_of_memory as no_space, refused, repeated, untyped}
+use Rattle.plan_lower.specs.Projection.{IsOutputRefusal, IsProjectionRefusal, against, no_room, out_of_memory as no_space, refused, untyped}
 use Rattle.plan_lower.specs.Works.{AreUnbroken, IsWorkAt, IsWorkRefusal, against_a_rule, lowered_lists, lowered_names, lowered_output, recorded_of, source_lists, unbroken_schema, unresolved, without_memory}
-use Rattle.plan_lower.proofs.BuiltLemmas.{agree, each_after_typed, each_named, each_strict, each_typed, each_wide, each_within, output_label, output_typed, over_built, over_schema, refused_over, unresolved_refused}
+use Rattle.plan_lower.proofs.BuiltLemmas.{agree, each_after_typed, each_named, each_strict, each_typed, each_wide, each_within, output_label, output_typed, over_built, over_schema, refused_over, unexpanded_then, unresolved_refused}
 
 abbrev pub source_outputs : List Lowered → List (Named Expression)
 source_outputs outputs = map (λ (o : Lowered). named o.tree) outputs
@@ -69,6 +76,14 @@ each_list (outputs ∷ lists) =
 named_trees : (lists : List (List Lowered)) (trees : List (List Expression)) → map (map (λ (o : Lowered). o.tree)) lists ≡ trees → map (map named) trees ≡ source_lists lists
 named_trees lists trees are =
     sym (ap (map (map named)) are) ∙ map-map (map named) (map (λ (o : Lowered). o.tree)) lists ∙ each_list lists
+
+-- what one list of expressions is expanded to; and what it can't be expanded to, its node can't be resolved to
+pub list_expanded : (schema : Columns) (sources : List Source) (trees : List Expression) → expansions [] schema sources ≡ Ok trees → expanded_each schema (sources ∷ []) ≡ Ok (trees ∷ [])
+list_expanded schema sources trees is = ap (λ r. then_ok r (λ trees. in_front_of trees (Ok []))) is
+
+pub list_unexpanded : (schema : Columns) (sources : List Source) (work : Result Work (List ErrorKind)) (error : PlanError) → IsUnexpanded (expansions [] schema sources) error → IsUnexpanded (then_ok (expanded_each schema (sources ∷ [])) (over_expanded work)) error
+list_unexpanded schema sources work error r =
+    unexpanded_then (expanded_each schema (sources ∷ [])) (over_expanded work) error (unexpanded_then (expansions [] schema sources) (λ trees. in_front_of trees (Ok [])) error r)
 
 recorded_has : (keeps : Bool) (columns : Columns) → HasRecorded (cond keeps None (Some columns)) (Some columns)
 recorded_has true columns = refl
@@ -183,29 +198,49 @@ module _ (registry : Registry) where
   work_refused work lists schema source error there (against_a_rule trees own kind expanded is e breaks) =
       subst (λ p. IsPlanRefusal registry p error) (sym (work_resolved registry work own lists trees source schema there expanded is)) (refused_over registry (over_op own (map (map named) trees) None) (resolved registry source) schema kind error there e breaks)
 
-  -- ---- a list of expressions of distinct names, among those of a node
+  -- ---- a list of expressions, among those of a node
 
-  -- a refusal of one of them is of a kind that the node breaks: the one for which it is refused, or that of repeated names
-  module _ (schema : Columns) (work : Work) (twice : ErrorKind) (make : List (Named Expression) → List (List (Named Expression)))
+  -- a refusal of one of them is of a kind that the node breaks: the one for which it isn't typed, or one that is asked
+  module _ (schema : Columns) (work : Work) (asked : Asked) (make : List (Named Expression) → List (List (Named Expression)))
       (breaks : (front : List (Named Expression)) (o : Named Expression) (back : List (Named Expression)) (kind : ErrorKind) → typing registry schema (settled o.expression) ≡ Err kind → Contains (broken_kinds registry (over_op work (make (front ++ o ∷ back)) None) (Some schema ∷ [])) kind)
-      (repeats : (before : Columns) (front : List (Named Expression)) (o : Named Expression) (back : List (Named Expression)) → names_of before ≡ names_in front → is_some (type_at before o.label.name) ≡ true → Contains (broken_kinds registry (over_op work (make (front ++ o ∷ back)) None) (Some schema ∷ [])) twice) where
+      (unmet : (before : Columns) (front : List (Named Expression)) (o : Named Expression) (back : List (Named Expression)) (typed : Typed) (kind : ErrorKind) → names_of before ≡ names_in front → typing registry schema (settled o.expression) ≡ Ok typed → asked_kinds asked before o.label.name typed ≡ kind ∷ [] → Contains (broken_kinds registry (over_op work (make (front ++ o ∷ back)) None) (Some schema ∷ [])) kind) where
     abbrev IsAgainst : List (Named Expression) → PlanError → Type 0
     IsAgainst outputs error = (error ≡ no_memory) ⊎ ((kind : ErrorKind) × (error ≡ at_top kind) × Contains (broken_kinds registry (over_op work (make outputs) None) (Some schema ∷ [])) kind)
 
-    output_against : (front back : List Expression) (tree : Expression) (before : Columns) (error : PlanError) → names_of before ≡ map name_of front → IsOutputRefusal registry schema twice tree before error → IsAgainst (map named front ++ named tree ∷ map named back) error
+    output_against : (front back : List Expression) (tree : Expression) (before : Columns) (error : PlanError) → names_of before ≡ map name_of front → IsOutputRefusal registry schema asked tree before error → IsAgainst (map named front ++ named tree ∷ map named back) error
     output_against front back tree before error names (no_room e) = inl e
     output_against front back tree before error names (untyped kind e typing) = inr (kind, e, breaks (map named front) (named tree) (map named back) kind typing)
-    output_against front back tree before error names (repeated e found) =
-        inr (twice, e, repeats before (map named front) (named tree) (map named back) (names ∙ sym (map-map (λ (o : Named Expression). o.label.name) named front)) found)
+    output_against front back tree before error names (against typed kind e is broken) =
+        inr (kind, e, unmet before (map named front) (named tree) (map named back) typed kind (names ∙ sym (map-map (λ (o : Named Expression). o.label.name) named front)) is broken)
 
-    pub outputs_against : (trees : List Expression) (error : PlanError) → IsProjectionRefusal registry schema twice trees error → IsAgainst (map named trees) error
-    outputs_against trees error (no_space e) = inl e
-    outputs_against trees error (refused r) =
+    asked_against : (trees : List Expression) (error : PlanError) → IsProjectionRefusal registry schema asked trees error → IsAgainst (map named trees) error
+    asked_against trees error (no_space e) = inl e
+    asked_against trees error (refused r) =
         let outputs = sym (map-append named r.front (r.tree ∷ r.back)) ∙ ap (map named) (sym r.split) in
         subst (λ os. IsAgainst os error) outputs (output_against r.front r.back r.tree r.before error r.names r.refusal)
 
-pub only_types : (outputs : List Lowered) → flat_map {X = Lowered} {A = ErrorKind} (λ o. []) outputs ++ [] ≡ []
-only_types outputs = append-nil _ ∙ no_types outputs
+  told : (test : Bool) (twice kind : ErrorKind) → kind_where test twice ≡ kind ∷ [] → (test ≡ true) × (twice ≡ kind)
+  told true twice kind e = (refl, cc)
+  told false twice kind e = absurd cc
+
+  -- their names, where one repeats,
+  pub names_against : (schema : Columns) (work : Work) (twice : ErrorKind) (make : List (Named Expression) → List (List (Named Expression)))
+      → ((front : List (Named Expression)) (o : Named Expression) (back : List (Named Expression)) (kind : ErrorKind) → typing registry schema (settled o.expression) ≡ Err kind → Contains (broken_kinds registry (over_op work (make (front ++ o ∷ back)) None) (Some schema ∷ [])) kind)
+      → ((before : Columns) (front : List (Named Expression)) (o : Named Expression) (back : List (Named Expression)) → names_of before ≡ names_in front → is_some (type_at before o.label.name) ≡ true → Contains (broken_kinds registry (over_op work (make (front ++ o ∷ back)) None) (Some schema ∷ [])) twice)
+      → (trees : List Expression) (error : PlanError) → IsProjectionRefusal registry schema (NewName twice) trees error → (error ≡ no_memory) ⊎ ((kind : ErrorKind) × (error ≡ at_top kind) × Contains (broken_kinds registry (over_op work (make (map named trees)) None) (Some schema ∷ [])) kind)
+  names_against schema work twice make breaks repeats trees error r =
+      asked_against schema work (NewName twice) make breaks (λ before front o back typed kind names is broken.
+      let found = told (is_some (type_at before o.label.name)) twice kind broken in
+      subst (λ k. Contains (broken_kinds registry (over_op work (make (front ++ o ∷ back)) None) (Some schema ∷ [])) k) found.1 (repeats before front o back names found.0)) trees error r
+
+  -- and their types, in a node whose work asks for these
+  pub types_against : (schema : Columns) (work : Work) (asked : Asked) → ((before : Columns) (name : Name) (typed : Typed) → asked_kinds asked before name typed ≡ type_kinds work typed) → (trees : List Expression) (error : PlanError) → IsProjectionRefusal registry schema asked trees error → (error ≡ no_memory) ⊎ ((kind : ErrorKind) × (error ≡ at_top kind) × Contains (broken_kinds registry (over_op work (map named trees ∷ []) None) (Some schema ∷ [])) kind)
+  types_against schema work asked same trees error r =
+      asked_against schema work asked (λ os. os ∷ []) (λ front o back kind. first_refused registry schema work None front o back [] kind) (λ before front o back typed kind names is broken.
+      let own = subst (λ kinds. Contains kinds kind) (sym broken ∙ same before o.label.name typed) (Contains-push [] kind) in
+      let here = subst (λ r. Contains (typed_kinds work r) kind) (sym is) own in
+      let among = kinds_of_one registry schema (λ (x : Named Expression). typed_kinds work (typing registry schema (settled x.expression))) front o back kind here in
+      types_refused registry schema work ((front ++ o ∷ back) ∷ []) None kind (Contains-append_left (list_type_kinds registry work schema (front ++ o ∷ back)) [] kind among)) trees error r
 
 pub columns_are : (outputs : List Lowered) → columns_of (map lowered_output outputs) ≡ map lowered_column outputs
 columns_are outputs = map-map (λ (o : TypedOutput). (o.name, o.typed.type)) lowered_output outputs

@@ -1,5 +1,5 @@
 -- The keys and aggregates of a group-by, lowered together.
-use Rattle.std.specs.Prelude.{◌≡◌, ℕ, List, [], ◌∷◌, ◌++◌, map, true, Ok, Some}
+use Rattle.std.specs.Prelude.{◌≡◌, ℕ, List, [], ◌∷◌, ◌++◌, map, true, Ok}
 use Rattle.std.specs.List.{AllByRecursion}
 use Rattle.plan_types.specs.Types.{Ty}
 use Rattle.plan_types.specs.Schemas.{Name, Columns, HasDistinctNames, repeats}
@@ -7,12 +7,11 @@ use Rattle.plan_types.specs.Errors.{no_memory, at_top}
 use Rattle.plan_types.specs.declared.error.ErrorKind.TheVariants.{ComputeError, Duplicate}
 use Rattle.plan_types.specs.declared.error.PlanError.{PlanError}
 use Rattle.plan_dsl.specs.Registry.{Registry}
-use Rattle.plan_dsl.specs.Trees.{node, no_more, more}
 use Rattle.plan_dsl.specs.Ops.{Expression}
 use Rattle.plan_dsl.specs.Sources.{Source, written}
 use Rattle.plan_dsl.specs.Expansion.{expansions, key_names}
 use Rattle.plan_dsl.specs.Names.{name_of}
-use Rattle.plan_dsl.specs.Plans.{Named, Plan, group_by_op}
+use Rattle.plan_dsl.specs.Plans.{Named}
 use Rattle.plan_dsl.specs.PlanRules.{type_in_groups}
 use Rattle.plan_dsl.specs.Typing.{Typed}
 use Rattle.plan_arena.specs.declared.aexpr.AExpr.{AExpr}
@@ -20,6 +19,7 @@ use Rattle.plan_arena.specs.Items.{DenoteNamed}
 use Rattle.plan_expand.specs.Refusals.{IsUnexpanded}
 use Rattle.plan_lower.specs.Outputs.{Lowered, lowered_named, lowered_column, IsLowered}
 use Rattle.plan_lower.specs.Projection.{IsProjectionRefusal}
+use Rattle.plan_lower.specs.declared.conversion.asked.Asked.TheVariants.{NewName}
 
 -- an aggregate's column in groups
 abbrev pub group_column : Lowered → Name × Ty
@@ -63,20 +63,16 @@ pub record HasExpandedGroups (registry : Registry) (schema : Columns) (items : L
   pub also : expansions (key_names (map written trees)) schema aggs ≡ Ok aggregates
   pub lowered : HasGroups registry schema items trees aggregates nodes others columns
 
--- a group-by of the keys and aggregates over a lowered plan
-abbrev pub lowered_groups : List Lowered → List Lowered → Plan → Plan
-lowered_groups keys aggs input = node (group_by_op (map lowered_named keys) (map lowered_named aggs) (Some (group_columns_of keys aggs))) (more input no_more)
-
 -- why aggregates can't be lowered behind keys of these names: one of them can't be projected, or a name comes twice
 pub data IsAggregateRefusal (registry : Registry) (schema : Columns) (keys : List Name) (aggs : List Expression) (error : PlanError) : Type 0 where
-  not_typed : IsProjectionRefusal registry schema Duplicate aggs error → IsAggregateRefusal registry schema keys aggs error
+  not_typed : IsProjectionRefusal registry schema (NewName Duplicate) aggs error → IsAggregateRefusal registry schema keys aggs error
   twice : error ≡ at_top Duplicate → repeats (keys ++ map name_of aggs) ≡ true → IsAggregateRefusal registry schema keys aggs error
 
 -- why keys and aggregates can't be lowered
 pub data IsGroupRefusal (registry : Registry) (schema : Columns) (keys aggs : List Expression) (error : PlanError) : Type 0 where
   short : error ≡ no_memory → IsGroupRefusal registry schema keys aggs error
   without_keys : error ≡ at_top ComputeError → keys ≡ [] → IsGroupRefusal registry schema keys aggs error
-  of_keys : IsProjectionRefusal registry schema Duplicate keys error → IsGroupRefusal registry schema keys aggs error
+  of_keys : IsProjectionRefusal registry schema (NewName Duplicate) keys error → IsGroupRefusal registry schema keys aggs error
   of_aggregates : IsAggregateRefusal registry schema (map name_of keys) aggs error → IsGroupRefusal registry schema keys aggs error
 
 -- why source expressions can't be lowered as keys and aggregates: some can't be expanded over the schema, or what they are

@@ -2,21 +2,17 @@
 -- A lowered plan is built from a query's plan where it is accepted, strict and named, has the schema that the
 -- query's plan has, gives on all fitting tables what the query means, and has no more casts and nodes than the query's plan
 -- calls for. A refusal names a broken rule.
-use Rattle.std.specs.Prelude.{◌≡◌, Bool, ◌<◌, ℕ, List, [], ◌∷◌, length, map, Option, Some, None, is_some, unwrap_or, slice_get, IsTrue, Result, Ok, Err}
-use Rattle.plan_types.specs.Schemas.{Columns, HasDistinctNames}
+use Rattle.std.specs.Prelude.{◌≡◌, ℕ, List, [], ◌∷◌, map, Option, Some, None, is_some, unwrap_or, slice_get, IsTrue, Result, Ok, Err}
+use Rattle.plan_types.specs.Schemas.{Columns}
 use Rattle.plan_types.specs.Frames.{Frame}
 use Rattle.plan_types.specs.Errors.{no_memory}
 use Rattle.plan_types.specs.declared.error.PlanError.{PlanError}
 use Rattle.plan_dsl.specs.Registry.{Registry}
 use Rattle.plan_dsl.specs.Trees.{node, no_more, more}
 use Rattle.plan_dsl.specs.Ops.{Expression}
-use Rattle.plan_dsl.specs.Plans.{Named, PlanOp, Plan, named, scan_op, select_op, hstack_op, group_by_op, filter_op, simple_projection_op}
-use Rattle.plan_dsl.specs.Drops.{drop_leaves}
-use Rattle.plan_dsl.specs.Expressions.{selector_trees}
+use Rattle.plan_dsl.specs.Plans.{Named, PlanOp, Plan, named, scan_op, filter_op}
 use Rattle.plan_dsl.specs.Sources.{Source}
-use Rattle.plan_dsl.specs.declared.function.DslFunction.{DslFunction}
-use Rattle.plan_dsl.specs.declared.function.DslFunction.TheVariants.{Drop}
-use Rattle.plan_dsl.specs.PlanRules.{with_columns, schema_of, IsWellFormed, Breaks}
+use Rattle.plan_dsl.specs.PlanRules.{schema_of, IsWellFormed, Breaks}
 use Rattle.plan_dsl.specs.PlanMeaning.{source_meaning, FitsPlan}
 use Rattle.plan_arena.specs.declared.aexpr.AExpr.{AExpr}
 use Rattle.plan_arena.specs.declared.ir.IR.{IR}
@@ -27,10 +23,8 @@ use Rattle.plan_arena.specs.Items.{DenoteNamed, HoldsPlan, DenotesPlan, plan_lay
 use Rattle.plan_arena.specs.Runs.{IsAccepted, IsStrictPlan, IsNamedPlan, plan_run, RunsSoundly}
 use Rattle.plan_bounds.specs.Bounds.{IsBounded}
 use Rattle.plan_bounds.specs.LoweredPlans.{IsLoweredPlan, IsWidePlan}
-use Rattle.plan_expand.specs.Refusals.{IsUnexpanded}
 use Rattle.plan_properties.specs.Splitting.{IsSplitPlan, split_predicate}
-use Rattle.plan_lower.specs.Groups.{HasExpandedGroups}
-use Rattle.plan_lower.specs.Outputs.{HasExpandedOutputs, lowered_named}
+use Rattle.plan_lower.specs.Outputs.{lowered_named}
 use Rattle.plan_lower.specs.Predicates.{HasExpandedPredicate}
 
 -- what is built from a well-formed plan, and the schema of both
@@ -109,18 +103,6 @@ pub record IsLoweringOf (registry : Registry) (plan : Plan) (lowering : IRPlan) 
   pub wide : IsWidePlan tree
   pub bounds : IsBounded registry plan tree
 
--- a select in a query, resolved
-abbrev pub resolved_select : List Expression → Plan → Plan
-resolved_select trees input = node (select_op (map named trees) None) (more input no_more)
-
--- an hstack in a query, resolved
-abbrev pub resolved_hstack : List Expression → Plan → Plan
-resolved_hstack trees input = node (hstack_op (map named trees) None) (more input no_more)
-
--- a group-by in a query, resolved
-abbrev pub resolved_groups : List Expression → List Expression → Plan → Plan
-resolved_groups keys aggs input = node (group_by_op (map named keys) (map named aggs) None) (more input no_more)
-
 -- a filter in a query, resolved
 abbrev pub resolved_filter : Expression → Plan → Plan
 resolved_filter tree input = node (filter_op (named tree)) (more input no_more)
@@ -145,32 +127,6 @@ Records plans n = IsTrue (is_some (recorded_at plans n))
 abbrev pub columns_at : List IR → ℕ → Columns
 columns_at plans n = unwrap_or (recorded_at plans n) []
 
--- the node is a select of what stands for the source expressions, over an input of the schema, or where nothing is
--- selected over the empty table. Its frame has the columns
-pub record IsSelectAt (registry : Registry) (schema : Columns) (expressions : List AExpr) (plans : List IR) (n input : ℕ) (sources : List Source) (columns : Columns) : Type 0 where
-  pub nodes : List (Named ℕ)
-  pub has : HasExpandedOutputs registry schema expressions sources nodes columns
-  pub below : ℕ
-  pub nothing : length nodes ≡ 0 → IsEmptyTableAt plans below
-  pub something : 0 < length nodes → below ≡ input
-  pub item : slice_get (map plan_layer plans) n ≡ Some (layer (select_op nodes (Some columns)) (below ∷ []))
-
--- the node is an hstack of what stands for the source expressions, over an input of the schema. Its frame has the
--- columns: the input's with theirs
-pub record IsHStackAt (registry : Registry) (schema : Columns) (expressions : List AExpr) (plans : List IR) (n input : ℕ) (sources : List Source) (columns : Columns) : Type 0 where
-  pub nodes : List (Named ℕ)
-  pub own : Columns
-  pub has : HasExpandedOutputs registry schema expressions sources nodes own
-  pub whole : columns ≡ with_columns schema own
-  pub item : slice_get (map plan_layer plans) n ≡ Some (layer (hstack_op nodes (Some columns)) (input ∷ []))
-
--- the node is a group-by of what stands for the source expressions, over an input of the schema. Its frame has the columns
-pub record IsGroupByAt (registry : Registry) (schema : Columns) (expressions : List AExpr) (plans : List IR) (n input : ℕ) (keys aggs : List Source) (columns : Columns) : Type 0 where
-  pub nodes : List (Named ℕ)
-  pub others : List (Named ℕ)
-  pub has : HasExpandedGroups registry schema expressions keys aggs nodes others columns
-  pub item : slice_get (map plan_layer plans) n ≡ Some (layer (group_by_op nodes others (Some columns)) (input ∷ []))
-
 -- nodes are filters by the predicates, each over the next, and the last over the input
 abbrev pub AreFilters : List IR → ℕ → List (Named ℕ) → ℕ → Type 0
 AreFilters plans n [] input = n ≡ input
@@ -184,21 +140,3 @@ pub record IsFilterAt (registry : Registry) (schema : Columns) (expressions : Li
   pub parts : List (Named ℕ)
   pub denote : DenoteNamed expressions parts (split_predicate (lowered_named has.lowered.output))
   pub filters : AreFilters plans n parts input
-
--- the node is a simple projection of what a drop leaves of the schema, over an input of the schema, or where nothing is
--- left over the empty table
-pub record IsDropAt (schema : Columns) (selectors : List Source) (strict : Bool) (plans : List IR) (n input : ℕ) (columns : Columns) : Type 0 where
-  pub distinct : HasDistinctNames schema
-  pub left : drop_leaves schema selectors strict ≡ Ok columns
-  pub below : ℕ
-  pub nothing : length columns ≡ 0 → IsEmptyTableAt plans below
-  pub something : 0 < length columns → below ≡ input
-  pub item : slice_get (map plan_layer plans) n ≡ Some (layer (simple_projection_op columns (Some columns)) (below ∷ []))
-
--- the node is what a function becomes over an input of the schema
-abbrev pub IsFunctionAt : Columns → DslFunction → List IR → ℕ → ℕ → Columns → Type 0
-IsFunctionAt schema (Drop function) plans n input columns = IsDropAt schema (selector_trees function.to_drop) function.strict plans n input columns
-
--- why a function isn't lowered over an input of the schema
-abbrev pub IsFunctionRefusal : Columns → DslFunction → PlanError → Type 0
-IsFunctionRefusal schema (Drop function) error = IsUnexpanded (drop_leaves schema (selector_trees function.to_drop) function.strict) error

@@ -1,17 +1,17 @@
--- The outputs of a select or an hstack: expressions with what lowering makes of them.
-use Rattle.std.specs.Prelude.{◌≡◌, ℕ, List, [], ◌∷◌, map, Some, Ok, IsTrue}
-use Rattle.std.specs.List.{AllByRecursion}
+-- Outputs: expressions of one node, with what lowering makes of them.
+use Rattle.std.specs.Prelude.{◌≡◌, ℕ, List, [], map, Ok, IsTrue}
+use Rattle.std.specs.List.{AllByRecursion, flat_map}
 use Rattle.plan_types.specs.Types.{Ty}
 use Rattle.plan_types.specs.Schemas.{Name, Columns, HasDistinctNames}
+use Rattle.plan_types.specs.declared.error.ErrorKind.{ErrorKind}
 use Rattle.plan_dsl.specs.InlinedCasts.{written_out}
 use Rattle.plan_dsl.specs.Registry.{Registry}
-use Rattle.plan_dsl.specs.Trees.{node, no_more, more}
 use Rattle.plan_dsl.specs.Ops.{Expression}
 use Rattle.plan_dsl.specs.Sources.{Source}
 use Rattle.plan_dsl.specs.Expansion.{expansions}
 use Rattle.plan_dsl.specs.Names.{label_of, name_of}
-use Rattle.plan_dsl.specs.Plans.{Named, Plan, select_op, hstack_op, empty_table}
-use Rattle.plan_dsl.specs.PlanRules.{with_columns}
+use Rattle.plan_dsl.specs.PlanRules.{type_kinds}
+use Rattle.plan_dsl.specs.Plans.{Named}
 use Rattle.plan_dsl.specs.Aliases.{core, spelled}
 use Rattle.plan_dsl.specs.Literals.{settled}
 use Rattle.plan_dsl.specs.Typing.{Typed, typing}
@@ -20,6 +20,9 @@ use Rattle.plan_arena.specs.declared.aexpr.AExpr.{AExpr}
 use Rattle.plan_arena.specs.Items.{DenoteNamed}
 use Rattle.plan_arena.specs.Runs.{NamesOperands}
 use Rattle.plan_bounds.specs.LoweredPlans.{has_wide_horizontals}
+use Rattle.plan_lower.specs.Asked.{asked_columns, asked_work}
+use Rattle.plan_lower.specs.declared.conversion.asked.Asked.{Asked}
+use Rattle.plan_lower.specs.declared.conversion.asked.Asked.TheVariants.{NewName}
 
 -- an expression of the query, its type, and what stands for it in the lowered plan
 pub record Lowered : Type 0 where
@@ -44,35 +47,18 @@ pub record IsLowered (registry : Registry) (schema : Columns) (output : Lowered)
   pub names : NamesOperands output.after
   pub wide : IsTrue (has_wide_horizontals output.after)
 
--- the outputs are those of the expressions, under distinct names
-pub record SelectsTo (registry : Registry) (schema : Columns) (trees : List Expression) (outputs : List Lowered) : Type 0 where
+-- nodes that stand for the expressions, of which what is asked holds, and the columns that are made of these
+pub record HasOutputs (registry : Registry) (schema : Columns) (asked : Asked) (items : List AExpr) (trees : List Expression) (nodes : List (Named ℕ)) (columns : Columns) : Type 0 where
+  pub outputs : List Lowered
   pub trees_are : map (λ o. o.tree) outputs ≡ trees
   pub each : AllByRecursion (IsLowered registry schema) outputs
-  pub distinct : HasDistinctNames (map lowered_column outputs)
-
--- nodes that stand for the expressions, and the schema of their columns
-pub record HasOutputs (registry : Registry) (schema : Columns) (items : List AExpr) (trees : List Expression) (nodes : List (Named ℕ)) (columns : Columns) : Type 0 where
-  pub outputs : List Lowered
-  pub selects : SelectsTo registry schema trees outputs
+  pub types : flat_map (λ o. type_kinds (asked_work asked) o.typed) outputs ≡ []
+  pub distinct : HasDistinctNames (asked_columns asked (map lowered_column outputs))
   pub denotes : DenoteNamed items nodes (map lowered_named outputs)
-  pub columns_are : columns ≡ map lowered_column outputs
+  pub columns_are : columns ≡ asked_columns asked (map lowered_column outputs)
 
--- source expressions are expanded over the schema, and the nodes stand for what they are expanded to
-pub record HasExpandedOutputs (registry : Registry) (schema : Columns) (items : List AExpr) (sources : List Source) (nodes : List (Named ℕ)) (columns : Columns) : Type 0 where
+-- source expressions are expanded over the schema, and the nodes stand for what they are expanded to, under new names
+pub record HasExpandedOutputs (registry : Registry) (schema : Columns) (twice : ErrorKind) (items : List AExpr) (sources : List Source) (nodes : List (Named ℕ)) (columns : Columns) : Type 0 where
   pub trees : List Expression
   pub expanded : expansions [] schema sources ≡ Ok trees
-  pub lowered : HasOutputs registry schema items trees nodes columns
-
--- a select of nothing stands over the empty table
-abbrev pub over : List Lowered → Plan → Plan
-over [] input = empty_table
-over (output ∷ outputs) input = input
-
--- a select of the outputs over a lowered plan
-abbrev pub lowered_select : List Lowered → Plan → Plan
-lowered_select outputs input = node (select_op (map lowered_named outputs) (Some (map lowered_column outputs))) (more (over outputs input) no_more)
-
--- an hstack of the outputs over a lowered plan of the schema
-abbrev pub lowered_hstack : Columns → List Lowered → Plan → Plan
-lowered_hstack schema outputs input =
-    node (hstack_op (map lowered_named outputs) (Some (with_columns schema (map lowered_column outputs)))) (more input no_more)
+  pub lowered : HasOutputs registry schema (NewName twice) items trees nodes columns

@@ -1,5 +1,5 @@
 -- What the worked examples share: outputs, predicates and plans over columns a and b, and what arenas hold of them.
-use Rattle.std.specs.Prelude.{◌≡◌, ℕ, List, [], ◌∷◌, map, true, codes, Option, Some}
+use Rattle.std.specs.Prelude.{◌≡◌, ℕ, List, [], ◌∷◌, map, pos, true, codes, None, Option, Some}
 use Rattle.plan_types.specs.Types.{Ty, Truth, Integer, ListType}
 use Rattle.plan_types.specs.Schemas.{Name, Columns}
 use Rattle.plan_dsl.specs.Trees.{node, no_more, more}
@@ -8,13 +8,18 @@ use Rattle.plan_dsl.specs.Ops.{Expression}
 use Rattle.plan_dsl.specs.Plans.{PlanOp, Plan, Named, named, scan_op, select_op, filter_op}
 use Rattle.plan_dsl.specs.Samples.{one_value}
 use Rattle.plan_dsl.specs.Typing.{Typed}
+use Rattle.plan_dsl.specs.declared.function.DslFunction.TheVariants.{FunctionIR as OfFunctionIR}
+use Rattle.plan_dsl.specs.declared.function.FunctionIR.TheVariants.{Rechunk}
+use Rattle.plan_dsl.specs.declared.plan.SinkType.TheVariants.{Memory}
 use Rattle.plan_arena.specs.Layers.{Layer, layer}
 use Rattle.plan_arena.specs.Items.{plan_layer}
 use Rattle.plan_arena.specs.declared.aexpr.AExpr.{AExpr}
 use Rattle.plan_arena.specs.declared.aexpr.AExpr.TheVariants.{Column}
 use Rattle.plan_arena.specs.declared.ir.IR.{IR}
 use Rattle.plan_arena.specs.declared.plan.IRPlan.{IRPlan}
-use Rattle.plan_lower.specs.Lowering.{resolved_select}
+use Rattle.plan_lower.specs.declared.conversion.step.Step.{Step}
+use Rattle.plan_lower.specs.declared.conversion.step.Plain.TheVariants.{Cache, Sink, Slice}
+use Rattle.plan_lower.specs.declared.conversion.step.Step.TheVariants.{Function, Plain as Unexpressed}
 use Rattle.plan_lower.specs.Outputs.{Lowered}
 use Rattle.plan_lower.specs.Projection.{Output}
 use Rattle.plan_infer.specs.Samples.{int32, one_column, two_columns, of_type, column, sum}
@@ -57,6 +62,10 @@ grouped_columns = (codes "a", Integer true 8) ∷ (codes "b", ListType (Integer 
 abbrev pub scan_of : Columns → Plan
 scan_of columns = node (scan_op (Some 0) columns) no_more
 
+-- a select of expressions in a query, resolved
+abbrev pub select_of : List Expression → Plan → Plan
+select_of trees input = node (select_op (map named trees) None) (more input no_more)
+
 -- a select of one expression, which records the columns
 abbrev pub select_over : Plan → Expression → Columns → Plan
 select_over input tree columns = node (select_op (named tree ∷ []) (Some columns)) (more input no_more)
@@ -65,7 +74,7 @@ abbrev pub filter_over : Plan → Expression → Plan
 filter_over input tree = node (filter_op (named tree)) (more input no_more)
 
 abbrev pub query : Plan
-query = resolved_select (sum ∷ []) (scan_of two_columns)
+query = select_of (sum ∷ []) (scan_of two_columns)
 
 abbrev pub lowered_query : Plan
 lowered_query = select_over (scan_of two_columns) strict_sum (one_column int32)
@@ -94,3 +103,7 @@ abbrev pub ForSum : (IRPlan → Type 0) → Type 0
 ForSum Has =
     (lowering : IRPlan) → lowering.lp_top.0 ≡ 1 → lowering.expr_arena ≡ strict_items
     → map plan_layer lowering.lp_arena ≡ sum_layers → Has lowering
+
+-- steps without expressions
+abbrev pub plain_steps : List Step
+plain_steps = Unexpressed (Slice (pos 1) 2) ∷ Unexpressed (Cache 7) ∷ Unexpressed (Sink Memory) ∷ Function (OfFunctionIR Rechunk) ∷ []

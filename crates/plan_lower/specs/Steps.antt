@@ -1,54 +1,96 @@
--- What a plan's node does over its only input: the plan that it makes of it, and when a lowered node stands for it.
-use Rattle.std.specs.Prelude.{◌≡◌, ℕ, List, [], ◌∷◌, ◌++◌}
+-- What a plan's node does over its only input: its work and its lists, the plan that it makes of the input, and when lowered
+-- nodes stand for it.
+use Rattle.std.specs.Prelude.{◌≡◌, ℕ, List, [], ◌∷◌, ◌++◌, None, Result, OnOk, IfOk}
+use Rattle.std.specs.Option.{option_map}
 use Rattle.plan_types.specs.Schemas.{Columns}
-use Rattle.plan_types.specs.declared.error.ErrorKind.TheVariants.{ComputeError, Duplicate}
 use Rattle.plan_types.specs.declared.error.PlanError.{PlanError}
-use Rattle.plan_dsl.specs.Expressions.{tree_of, trees_of}
-use Rattle.plan_dsl.specs.Plans.{PlanOption, OrderOption, ProjectionOption, SourcePlan, source_filter, source_function, source_group_by, source_hstack, source_select}
+use Rattle.plan_dsl.specs.Expressions.{selector_trees, tree_of, trees_of}
+use Rattle.plan_dsl.specs.Plans.{CachePass, DistinctWork, DropWork, FilterWork, GroupByWork, HStackWork, HitsOption, OrderOption, PassWork, PlanOption, ProjectionOption, RechunkPass, SelectWork, SinkPass, SliceWork, SourcePlan, Work, function_work, sort_work, source_over, subset_lists, unknown_hits}
 use Rattle.plan_dsl.specs.Registry.{Registry}
+use Rattle.plan_dsl.specs.Sources.{Source}
+use Rattle.plan_dsl.specs.declared.function.DslFunction.{DslFunction}
+use Rattle.plan_dsl.specs.declared.function.DslFunction.TheVariants.{Drop, FunctionIR as OfFunctionIR}
 use Rattle.plan_arena.specs.declared.aexpr.AExpr.{AExpr}
 use Rattle.plan_arena.specs.declared.ir.IR.{IR}
+use Rattle.plan_arena.specs.Items.{Grows}
+use Rattle.plan_arena.specs.Options.{options_of}
+use Rattle.plan_lower.specs.declared.conversion.step.LoweredNode.{LoweredNode}
 use Rattle.plan_lower.specs.declared.conversion.step.Step.{Step}
-use Rattle.plan_lower.specs.declared.conversion.step.Step.TheVariants.{Filter, Function, GroupBy, HStack, Select}
-use Rattle.plan_lower.specs.Groups.{IsUngrouped}
-use Rattle.plan_lower.specs.Lowering.{IsFilterAt, IsFunctionAt, IsFunctionRefusal, IsGroupByAt, IsHStackAt, IsSelectAt}
-use Rattle.plan_lower.specs.Predicates.{IsUnfiltered}
-use Rattle.plan_lower.specs.Projection.{IsUnprojected}
+use Rattle.plan_lower.specs.declared.conversion.step.Plain.{Plain}
+use Rattle.plan_lower.specs.declared.conversion.step.Plain.TheVariants.{Cache, Rechunk, Sink, Slice}
+use Rattle.plan_lower.specs.declared.conversion.step.Step.TheVariants.{Distinct, Filter, Function, GroupBy, HStack, Plain as Unexpressed, Select, Sort}
+use Rattle.plan_lower.specs.Lowering.{IsFilterAt, Records}
+use Rattle.plan_lower.specs.Works.{IsWorkAt, IsWorkRefusal}
+
+-- what a function over a frame does, and its lists
+abbrev pub call_work : DslFunction → Work
+call_work (Drop function) = DropWork function.strict
+call_work (OfFunctionIR function) = function_work function
+
+abbrev pub call_lists : DslFunction → List (List Source)
+call_lists (Drop function) = selector_trees function.to_drop ∷ []
+call_lists (OfFunctionIR function) = []
+
+-- what a node without expressions does, and its option, if it has one
+abbrev pub plain_work : Plain → Work
+plain_work (Slice offset len) = SliceWork offset len
+plain_work (Cache id) = PassWork (CachePass id)
+plain_work (Sink payload) = PassWork SinkPass
+plain_work Rechunk = PassWork RechunkPass
+
+abbrev pub plain_option : Plain → List PlanOption
+plain_option (Cache id) = HitsOption unknown_hits ∷ []
+plain_option plain = []
+
+-- what a step does, and its lists
+abbrev pub step_work : Step → Work
+step_work (Filter predicate) = FilterWork
+step_work (Select exprs options) = SelectWork
+step_work (HStack exprs options) = HStackWork
+step_work (GroupBy keys aggs maintain_order) = GroupByWork
+step_work (Function function) = call_work function
+step_work (Distinct options) = DistinctWork options.keep_strategy None
+step_work (Sort by options) = sort_work options
+step_work (Unexpressed plain) = plain_work plain
+
+abbrev pub step_lists : Step → List (List Source)
+step_lists (Filter predicate) = (tree_of predicate ∷ []) ∷ []
+step_lists (Select exprs options) = trees_of exprs ∷ []
+step_lists (HStack exprs options) = trees_of exprs ∷ []
+step_lists (GroupBy keys aggs maintain_order) = trees_of keys ∷ trees_of aggs ∷ []
+step_lists (Function function) = call_lists function
+step_lists (Distinct options) = subset_lists (option_map selector_trees options.subset)
+step_lists (Sort by options) = trees_of by ∷ []
+step_lists (Unexpressed plain) = []
 
 -- a step over a plan, as a query has it
 abbrev pub source_step : Step → SourcePlan → SourcePlan
-source_step (Filter predicate) input = source_filter (tree_of predicate) input
-source_step (Select exprs options) input = source_select (trees_of exprs) input
-source_step (HStack exprs options) input = source_hstack (trees_of exprs) input
-source_step (GroupBy keys aggs maintain_order) input = source_group_by (trees_of keys) (trees_of aggs) input
-source_step (Function function) input = source_function function input
+source_step step input = source_over (step_work step) (step_lists step) input
 
--- the options of its nodes from the top down, from those of the plan's
-abbrev pub options_above : Step → List PlanOption → List PlanOption
-options_above (Select exprs options) below = ProjectionOption options ∷ below
-options_above (HStack exprs options) below = ProjectionOption options ∷ below
-options_above (GroupBy keys aggs maintain_order) below = OrderOption maintain_order ∷ below
-options_above step below = below
+-- the option of its node, if it has one
+abbrev pub step_option : Step → List PlanOption
+step_option (Filter predicate) = []
+step_option (Select exprs options) = ProjectionOption options ∷ []
+step_option (HStack exprs options) = ProjectionOption options ∷ []
+step_option (GroupBy keys aggs maintain_order) = OrderOption maintain_order ∷ []
+step_option (Function function) = []
+step_option (Distinct options) = OrderOption options.maintain_order ∷ []
+step_option (Sort by options) = []
+step_option (Unexpressed plain) = plain_option plain
 
--- and of the items of an arena, with the step's behind
-abbrev pub options_behind : Step → List PlanOption → List PlanOption
-options_behind (Select exprs options) before = before ++ ProjectionOption options ∷ []
-options_behind (HStack exprs options) before = before ++ ProjectionOption options ∷ []
-options_behind (GroupBy keys aggs maintain_order) before = before ++ OrderOption maintain_order ∷ []
-options_behind step before = before
-
--- the node is what the step becomes over an input of the schema. Its frame has the columns
+-- The node is what the step becomes over an input of the schema. Its frame has the columns. A filter alone may become any
+-- number of nodes.
 abbrev pub IsStepAt : Registry → Columns → List AExpr → List IR → ℕ → ℕ → Step → Columns → Type 0
 IsStepAt registry schema expressions plans n input (Filter predicate) columns = IsFilterAt registry schema expressions plans n input (tree_of predicate) × (columns ≡ schema)
-IsStepAt registry schema expressions plans n input (Select exprs options) columns = IsSelectAt registry schema expressions plans n input (trees_of exprs) columns
-IsStepAt registry schema expressions plans n input (HStack exprs options) columns = IsHStackAt registry schema expressions plans n input (trees_of exprs) columns
-IsStepAt registry schema expressions plans n input (GroupBy keys aggs maintain_order) columns = IsGroupByAt registry schema expressions plans n input (trees_of keys) (trees_of aggs) columns
-IsStepAt registry schema expressions plans n input (Function function) columns = IsFunctionAt schema function plans n input columns
+IsStepAt registry schema expressions plans n input step columns = IsWorkAt registry schema expressions plans n input (step_work step) (step_lists step) columns
 
 -- why a step isn't lowered over an input of the schema
 abbrev pub IsStepRefusal : Registry → Columns → Step → PlanError → Type 0
-IsStepRefusal registry schema (Filter predicate) error = IsUnfiltered registry schema (tree_of predicate) error
-IsStepRefusal registry schema (Select exprs options) error = IsUnprojected registry schema Duplicate (trees_of exprs) error
-IsStepRefusal registry schema (HStack exprs options) error = IsUnprojected registry schema ComputeError (trees_of exprs) error
-IsStepRefusal registry schema (GroupBy keys aggs maintain_order) error = IsUngrouped registry schema (trees_of keys) (trees_of aggs) error
-IsStepRefusal registry schema (Function function) error = IsFunctionRefusal schema function error
+IsStepRefusal registry schema step error = IsWorkRefusal registry schema (step_work step) (step_lists step) error
+
+-- What the nodes of a plan or of a step leave of the arena of plans, which keeps its items after a refusal too: the answer names
+-- one that records a schema, and the options are those that were there, with these behind them.
+pub record AddsStep (old new : List IR) (own : List PlanOption) (result : Result LoweredNode PlanError) : Type 0 where
+  pub recorded : IfOk result (λ lowered. Records new lowered.schema_node.0)
+  pub grows : Grows old new
+  pub options : OnOk result (options_of new ≡ options_of old ++ own)

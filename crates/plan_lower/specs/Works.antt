@@ -1,5 +1,5 @@
 -- A node over one input, whatever it does: when a lowered node is the one that a query has, and why one isn't lowered.
-use Rattle.std.specs.Prelude.{◌≡◌, ℕ, List, [], ◌∷◌, map, Option, Some, None, Bool, true, false, Ok, slice_get, if◌then◌else◌}
+use Rattle.std.specs.Prelude.{◌≡◌, ℕ, List, [], ◌∷◌, map, Option, Some, None, true, false, Ok, slice_get, if◌then◌else◌}
 use Rattle.std.specs.List.{AllByRecursion, Contains, flat_map}
 use Rattle.plan_types.specs.Errors.{no_memory, at_top}
 use Rattle.plan_types.specs.Schemas.{Name, Columns}
@@ -68,8 +68,26 @@ pub record IsWorkAt (registry : Registry) (schema : Columns) (expressions : List
   pub something : gives_nothing own (map lowered_names outputs) ≡ false → below ≡ input
   pub item : slice_get (map plan_layer plans) n ≡ Some (layer (over_op own nodes (recorded_of own columns)) (below ∷ []))
 
+-- The work over these lists is resolved over the schema to one without expressions, which breaks no rule and keeps that
+-- schema.
+pub record IsPlain (schema : Columns) (work : Work) (lists : List (List Source)) (own : Work) : Type 0 where
+  pub expanded : expanded_lists schema work lists ≡ Ok []
+  pub resolved : resolved_work schema work lists ≡ Ok own
+  pub unbroken : work_kinds own schema [] ≡ []
+  pub whole : IsWhole (OverKind own [])
+  pub keeps : keeps_schema own ≡ true
+  pub columns : work_schema own schema [] ≡ schema
+  pub something : gives_nothing own [] ≡ false
+
 -- why it isn't lowered: memory ran out, it can't be resolved over the schema, or it breaks a rule
 pub data IsWorkRefusal (registry : Registry) (schema : Columns) (work : Work) (lists : List (List Source)) (error : PlanError) : Type 0 where
   without_memory : error ≡ no_memory → IsWorkRefusal registry schema work lists error
   unresolved : IsUnexpanded (expanded_over schema work lists) error → IsWorkRefusal registry schema work lists error
   against_a_rule : (trees : List (List Expression)) (own : Work) (kind : ErrorKind) → expanded_lists schema work lists ≡ Ok trees → resolved_work schema work lists ≡ Ok own → error ≡ at_top kind → Contains (broken_kinds registry (over_op own (map (map named) trees) None) (Some schema ∷ [])) kind → IsWorkRefusal registry schema work lists error
+
+-- a node without expressions is the one that a query has, whatever expressions and functions there are, and so it is refused
+abbrev pub IsPlainAt : Columns → List IR → ℕ → ℕ → Work → List (List Source) → Columns → Type 0
+IsPlainAt schema plans n input work lists columns = (registry : Registry) (expressions : List AExpr) → IsWorkAt registry schema expressions plans n input work lists columns
+
+abbrev pub IsPlainRefusal : Columns → Work → List (List Source) → PlanError → Type 0
+IsPlainRefusal schema work lists error = (registry : Registry) → IsWorkRefusal registry schema work lists error

@@ -1,17 +1,16 @@
 -- Counts of casts.
-use Rattle.std.proofs.Common.{◌≡◌, ℕ, zero, suc, ◌+◌, ◌<◌, ◌≤◌, List, [], ◌∷◌, length, map, take, get_or, sum, Option, Some, slice_get, refl, sym, ap, ◌∙◌, subst, arith}
-use Rattle.std.specs.List.{AllByRecursion}
+use Rattle.std.proofs.Common.{◌≡◌, ℕ, zero, suc, ◌+◌, ◌<◌, ◌≤◌, List, [], ◌∷◌, ◌++◌, length, map, take, get_or, sum, sum_by, Option, Some, slice_get, refl, sym, ap, ◌∙◌, subst, arith}
+use Rattle.std.specs.List.{AllByRecursion, flat_map}
 use Rattle.std.specs.Option.{option_map}
 use Rattle.std.proofs.lemmas.List.{take_all}
-use Rattle.std.proofs.lemmas.List.Sums.{sum_by_more}
+use Rattle.std.proofs.lemmas.List.Sums.{sum_by-append, sum_by-cons, sum_by_more}
 use Rattle.std.proofs.lemmas.Option.{slice_get-map, slice_get-get_or, slice_get_within, get_or_from_slice_get}
 use Rattle.plan_dsl.specs.Trees.{Tree, Trees, node, no_more, more, fold, fold_all}
 use Rattle.plan_dsl.specs.Ops.{Op, Expression}
-use Rattle.plan_dsl.specs.Plans.{Named, Work, GroupByWork, SimpleProjectionWork, PlanKind, ScanKind, OverKind, GroupByKind, FilterKind, SimpleProjectionKind, PlanOp, Plan}
-use Rattle.plan_types.specs.Schemas.{Columns}
+use Rattle.plan_dsl.specs.Plans.{Named, OverInput, PlanKind, PlanOp, Plan, expressions_of}
 use Rattle.plan_arena.specs.Denotation.{Denotes, DenoteAll, DenotesTree, depth_at}
 use Rattle.plan_arena.specs.Layers.{layer, op_of, inputs_of, shape_of}
-use Rattle.plan_arena.specs.Items.{named_node, expression_layer, plan_layer, HoldsExpression, DenoteNamed, DenotesKind, HoldsPlan}
+use Rattle.plan_arena.specs.Items.{named_node, nodes_of, expression_layer, plan_layer, HoldsExpression, DenoteNamed, DenotesKind, HoldsPlan}
 use Rattle.plan_types.specs.declared.dtype.CastOptions.{CastOptions}
 use Rattle.plan_types.specs.declared.dtype.DataType.{DataType}
 use Rattle.plan_dsl.specs.declared.literal.LiteralValue.{LiteralValue}
@@ -22,9 +21,9 @@ use Rattle.plan_arena.specs.declared.expr_ir.ExprIR.{ExprIR}
 use Rattle.plan_arena.specs.declared.ir.IR.{IR}
 use Rattle.plan_arena.proofs.DenotationLemmas.{some_same}
 use Rattle.plan_arena.proofs.NumberLemmas.{all_there}
-use Rattle.plan_arena.proofs.ItemLemmas.{expression_got, filter_denoted, layer_parts, list_denoted, none_denoted, two_denoted}
+use Rattle.plan_arena.proofs.ItemLemmas.{expression_got, layer_parts}
 use Rattle.plan_dsl.specs.Counts.{op_casts, expression_casts, outputs_casts, kind_casts, plan_op_casts, cast_count}
-use Rattle.plan_report.proofs.NodeLemmas.{held_op, held_children, LeadsDown, expression_inputs}
+use Rattle.plan_report.proofs.NodeLemmas.{held_op, held_children, in_parts, kind_outputs, LeadsDown, expression_inputs}
 
 -- a count for each node, of the tree that it denotes
 abbrev pub CountAll : {Op : Type 0} → (ℕ → Op → List ℕ → Type 0) → (Tree Op → ℕ) → List ℕ → List ℕ → Type 0
@@ -174,41 +173,21 @@ outputs_more items ns i count casts new n at so_far one added es d =
 pub named_tree : (items : List AExpr) (ns : List (Named ℕ)) (es : List (Named Expression)) → DenoteNamed items ns es → (i : ℕ) (n : Named ℕ) → slice_get ns i ≡ Some n → DenotesTree (HoldsExpression items) n.expression
 named_tree items ns es d i n at = let found = named_at items ns es d i n at in record { tree = found.0.expression; denotes = found.2 }
 
--- a scan and a simple projection have no casts, and a node over one list of expressions has those of the list
-pub scan_casts : (items : List AExpr) (table : Option ℕ) (schema : Columns) (kind : PlanKind (Named Expression)) → DenotesKind items (ScanKind table schema) kind → 0 ≡ kind_casts kind
-scan_casts items table schema kind d = sym (ap kind_casts d)
+-- the casts of two lists are those of the whole
+pub parts_counted : (items : List AExpr) (ns ms all : List (Named ℕ)) (first later count : ℕ) → ns ++ ms ≡ all → ((es : List (Named Expression)) → DenoteNamed items ns es → first ≡ outputs_casts es) → ((es : List (Named Expression)) → DenoteNamed items ms es → later ≡ outputs_casts es) → count ≡ first + later → (es : List (Named Expression)) → DenoteNamed items all es → count ≡ outputs_casts es
+parts_counted items ns ms all first later count split here behind both es d =
+    let parts = in_parts items ns ms es (subst (λ l. DenoteNamed items l es) (sym split) d) in
+    both ∙ (λ i. here parts.front parts.before i + behind parts.back parts.behind i) ∙ sym (sum_by-append (λ (e : Named Expression). expression_casts e.expression) parts.front parts.back) ∙ ap outputs_casts (sym parts.split)
 
-pub list_casts : (items : List AExpr) (work : Work) (nodes : List (Named ℕ)) (count : ℕ) → ((es : List (Named Expression)) → DenoteNamed items nodes es → count ≡ outputs_casts es) → (kind : PlanKind (Named Expression)) → DenotesKind items (OverKind work (nodes ∷ [])) kind → count ≡ kind_casts kind
-list_casts items work nodes count all kind d =
-    let only = list_denoted items work nodes kind d in
-    let here = all only.0 only.2 in
-    let whole : kind_casts kind ≡ 0 + outputs_casts only.0 = ap kind_casts only.1 in
-    omega (arith, here, whole)
+lists_counted : (lists : List (OverInput (Named Expression))) → sum_by (λ (e : OverInput (Named Expression)). outputs_casts e.outputs) lists ≡ outputs_casts (flat_map (λ (e : OverInput (Named Expression)). e.outputs) lists)
+lists_counted [] = refl
+lists_counted (list ∷ lists) =
+    sum_by-cons (λ (e : OverInput (Named Expression)). outputs_casts e.outputs) list lists
+    ∙ ap (λ rest. outputs_casts list.outputs + rest) (lists_counted lists) ∙ sym (sum_by-append (λ (e : Named Expression). expression_casts e.expression) list.outputs (flat_map (λ (e : OverInput (Named Expression)). e.outputs) lists))
 
-pub projection_casts : (items : List AExpr) (columns : Columns) (kind : PlanKind (Named Expression)) → DenotesKind items (SimpleProjectionKind columns) kind → 0 ≡ kind_casts kind
-projection_casts items columns kind d = sym (ap kind_casts (none_denoted items (SimpleProjectionWork columns) kind d))
-
--- a group-by has those of its keys and of its aggregates
-pub group_casts : (items : List AExpr) (keys aggs : List (Named ℕ)) (first later count : ℕ) → ((es : List (Named Expression)) → DenoteNamed items keys es → first ≡ outputs_casts es) → ((es : List (Named Expression)) → DenoteNamed items aggs es → later ≡ outputs_casts es) → count ≡ first + later → (kind : PlanKind (Named Expression)) → DenotesKind items (GroupByKind keys aggs) kind → count ≡ kind_casts kind
-group_casts items keys aggs first later count all others both kind d =
-    let two = two_denoted items GroupByWork keys aggs kind d in
-    let here = all two.0 two.3 in
-    let also = others two.1 two.4 in
-    let whole : kind_casts kind ≡ (0 + outputs_casts two.0) + outputs_casts two.1 = ap kind_casts two.2 in
-    omega (arith, both, here, also, whole)
-
--- the only named node denotes an expression
-pub only_named : (items : List AExpr) (n : Named ℕ) (es : List (Named Expression)) → DenoteNamed items (n ∷ []) es → DenotesTree (HoldsExpression items) n.expression
-only_named items n [] d = absurd d
-only_named items n (e ∷ es) d = record { tree = e.expression; denotes = d.1 }
-
--- a filter has those of its predicate
-pub filter_casts : (items : List AExpr) (n : Named ℕ) (at count : ℕ) → at ≡ n.expression → ((t : Expression) → Denotes (HoldsExpression items) at t → count ≡ expression_casts t) → (kind : PlanKind (Named Expression)) → DenotesKind items (FilterKind n) kind → count ≡ kind_casts kind
-filter_casts items n at count same one kind d =
-    let p = filter_denoted items n kind d in
-    let here = one p.0.expression (subst (λ k. Denotes (HoldsExpression items) k p.0.expression) (sym same) p.2.1) in
-    let whole : kind_casts kind ≡ 0 + (0 + expression_casts p.0.expression) = ap kind_casts p.1 in
-    omega (arith, here, whole)
+-- a node has those of all its expressions
+pub kind_counted : (items : List AExpr) (flat : PlanKind (Named ℕ)) (count : ℕ) → ((es : List (Named Expression)) → DenoteNamed items (nodes_of flat) es → count ≡ outputs_casts es) → (kind : PlanKind (Named Expression)) → DenotesKind items flat kind → count ≡ kind_casts kind
+kind_counted items flat count all kind d = all (nodes_of kind) (kind_outputs items flat kind d) ∙ sym (lists_counted (expressions_of kind))
 
 -- an output that the list has is there, with its name
 pub named_there : (items : List ExprIR) (i : ℕ) (item : ExprIR) → i < length items → item ≡ get_or items i item → slice_get (map named_node items) i ≡ Some (named_node item)

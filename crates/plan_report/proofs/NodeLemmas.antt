@@ -6,16 +6,16 @@ use Rattle.std.proofs.lemmas.Option.{same_Some}
 use Rattle.plan_types.specs.Schemas.{Columns}
 use Rattle.plan_dsl.specs.Trees.{Trees, node, no_more, more}
 use Rattle.plan_dsl.specs.Ops.{Op, Expression}
-use Rattle.plan_dsl.specs.Plans.{Named, Work, FilterWork, PlanKind, ScanKind, OverKind, RefusedKind, PlanOp, Plan, filter_op}
+use Rattle.plan_dsl.specs.Plans.{Named, Work, PlanKind, ScanKind, OverKind, RefusedKind, PlanOp, Plan, over_op}
 use Rattle.plan_dsl.specs.PlanRules.{schema_of}
 use Rattle.plan_dsl.specs.Registry.{Registry}
 use Rattle.plan_arena.specs.Denotation.{Denotes, DenoteAll, DenotesTree, depth_at}
 use Rattle.plan_arena.specs.Layers.{Layer, inputs_of, layer, op_of, shape_of}
-use Rattle.plan_arena.specs.Items.{expression_layer, plan_layer, kind_text, node_name, HoldsExpression, DenoteLists, DenotesKind, HoldsPlan, DenotesItem}
+use Rattle.plan_arena.specs.Items.{expression_layer, plan_layer, kind_text, node_name, nodes_of, HoldsExpression, DenoteLists, DenoteNamed, DenotesKind, HoldsPlan, DenotesItem, KeepsInput}
 use Rattle.plan_arena.specs.Runs.{IsAccepted, AllAccepted}
 use Rattle.plan_arena.specs.declared.aexpr.AExpr.{AExpr}
 use Rattle.plan_arena.specs.declared.ir.IR.{IR}
-use Rattle.plan_arena.specs.declared.ir.IR.TheVariants.{Filter, GroupBy, HStack, Select, SimpleProjection}
+use Rattle.plan_arena.specs.declared.ir.IR.TheVariants.{Cache, Distinct, Filter, GroupBy, HStack, MapFunction, Select, SimpleProjection, Sink, Slice, Sort}
 use Rattle.plan_arena.proofs.DenotationLemmas.{some_same, inputs_denote, denotes_one}
 use Rattle.plan_arena.proofs.ItemLemmas.{layer_op, layer_inputs, expression_laws, plan_laws, plan_got, expression_got, item_denotes}
 use Rattle.plan_arena.proofs.UncheckedLemmas.{kept_item}
@@ -69,20 +69,54 @@ module _ (expressions : List AExpr) (plans : List IR) (n : ℕ) (item : IR) (got
   pub node_kind : DenotesTree (HoldsPlan expressions plans) n → DenotesSome expressions flat.kind
   node_kind d = kind_of_node d.tree d.denotes
 
--- the first list of expressions of a node, and the second, denote expressions
-first_denotes : (expressions : List AExpr) (nodes : List (Named ℕ)) (others : List (List (Named ℕ))) (lists : List (List (Named Expression))) → DenoteLists expressions (nodes ∷ others) lists → DenoteOutputs expressions nodes
-first_denotes expressions nodes others (outputs ∷ lists) d = record { outputs = outputs; denote = d.0 }
-first_denotes expressions nodes others [] d = absurd d
+-- ---- the expressions of all lists of a node
 
-second_denotes : (expressions : List AExpr) (first nodes : List (Named ℕ)) (others : List (List (Named ℕ))) (lists : List (List (Named Expression))) → DenoteLists expressions (first ∷ nodes ∷ others) lists → DenoteOutputs expressions nodes
-second_denotes expressions first nodes others (outputs ∷ lists) d = first_denotes expressions nodes others lists d.1
-second_denotes expressions first nodes others [] d = absurd d
+joined_denote : (expressions : List AExpr) (ns ms : List (Named ℕ)) (es fs : List (Named Expression)) → DenoteNamed expressions ns es → DenoteNamed expressions ms fs → DenoteNamed expressions (ns ++ ms) (es ++ fs)
+joined_denote expressions [] ms [] fs d f = f
+joined_denote expressions (n ∷ ns) ms (e ∷ es) fs d f = (d.0, d.1, joined_denote expressions ns ms es fs d.2 f)
+joined_denote expressions [] ms (e ∷ es) fs d f = absurd d
+joined_denote expressions (n ∷ ns) ms [] fs d f = absurd d
 
-pub first_outputs : (expressions : List AExpr) (work : Work) (nodes : List (Named ℕ)) (others : List (List (Named ℕ))) → DenotesSome expressions (OverKind work (nodes ∷ others)) → DenoteOutputs expressions nodes
-first_outputs expressions work nodes others d = first_denotes expressions nodes others d.denotes.0 d.denotes.2
+lists_denote : (expressions : List AExpr) (work : Work) (nodes : List (List (Named ℕ))) (lists : List (List (Named Expression))) → DenoteLists expressions nodes lists → DenoteNamed expressions (nodes_of (OverKind work nodes)) (nodes_of (OverKind work lists))
+lists_denote expressions work [] [] d = tt
+lists_denote expressions work (ns ∷ nodes) (es ∷ lists) d =
+    joined_denote expressions ns (nodes_of (OverKind work nodes)) es (nodes_of (OverKind work lists)) d.0 (lists_denote expressions work nodes lists d.1)
+lists_denote expressions work [] (es ∷ lists) d = absurd d
+lists_denote expressions work (ns ∷ nodes) [] d = absurd d
 
-pub second_outputs : (expressions : List AExpr) (work : Work) (first nodes : List (Named ℕ)) (others : List (List (Named ℕ))) → DenotesSome expressions (OverKind work (first ∷ nodes ∷ others)) → DenoteOutputs expressions nodes
-second_outputs expressions work first nodes others d = second_denotes expressions first nodes others d.denotes.0 d.denotes.2
+-- they denote those of the kind
+pub kind_outputs : (expressions : List AExpr) (flat : PlanKind (Named ℕ)) (kind : PlanKind (Named Expression)) → DenotesKind expressions flat kind → DenoteNamed expressions (nodes_of flat) (nodes_of kind)
+kind_outputs expressions (ScanKind table schema) kind d = subst (λ k. DenoteNamed expressions [] (nodes_of k)) (sym d) tt
+kind_outputs expressions (OverKind work nodes) kind d = subst (λ k. DenoteNamed expressions (nodes_of (OverKind work nodes)) (nodes_of k)) (sym d.1) (lists_denote expressions work nodes d.0 d.2)
+kind_outputs expressions (RefusedKind kinds) kind d = absurd d
+
+pub denote_some : (expressions : List AExpr) (flat : PlanKind (Named ℕ)) → DenotesSome expressions flat → DenoteOutputs expressions (nodes_of flat)
+denote_some expressions flat d = record { outputs = nodes_of d.kind; denote = kind_outputs expressions flat d.kind d.denotes }
+
+-- what nodes denote, in two parts
+pub record InParts (expressions : List AExpr) (ns ms : List (Named ℕ)) (whole : List (Named Expression)) : Type 0 where
+  pub front : List (Named Expression)
+  pub back : List (Named Expression)
+  pub split : whole ≡ front ++ back
+  pub before : DenoteNamed expressions ns front
+  pub behind : DenoteNamed expressions ms back
+
+pub in_parts : (expressions : List AExpr) (ns ms : List (Named ℕ)) (es : List (Named Expression)) → DenoteNamed expressions (ns ++ ms) es → InParts expressions ns ms es
+in_parts expressions [] ms es d = record { front = []; back = es; split = refl; before = tt; behind = d }
+in_parts expressions (n ∷ ns) ms (e ∷ es) d =
+    let rest = in_parts expressions ns ms es d.2 in
+    record { front = e ∷ rest.front; back = rest.back; split = ap (λ l. e ∷ l) rest.split; before = (d.0, d.1, rest.before); behind = rest.behind }
+in_parts expressions (n ∷ ns) ms [] d = absurd d
+
+pub first_outputs : (expressions : List AExpr) (ns ms all : List (Named ℕ)) → ns ++ ms ≡ all → DenoteOutputs expressions all → DenoteOutputs expressions ns
+first_outputs expressions ns ms all split d =
+    let parts = in_parts expressions ns ms d.outputs (subst (λ l. DenoteNamed expressions l d.outputs) (sym split) d.denote) in
+    record { outputs = parts.front; denote = parts.before }
+
+pub later_outputs : (expressions : List AExpr) (ns ms all : List (Named ℕ)) → ns ++ ms ≡ all → DenoteOutputs expressions all → DenoteOutputs expressions ms
+later_outputs expressions ns ms all split d =
+    let parts = in_parts expressions ns ms d.outputs (subst (λ l. DenoteNamed expressions l d.outputs) (sym split) d.denote) in
+    record { outputs = parts.back; denote = parts.behind }
 
 -- a kind over nodes is called as the one over expressions
 same_text : (expressions : List AExpr) (flat : PlanKind (Named ℕ)) (kind : PlanKind (Named Expression)) → DenotesKind expressions flat kind → kind_text flat ≡ kind_text kind
@@ -139,12 +173,12 @@ module _ (expressions : List AExpr) (plans : List IR) (n : ℕ) (item : IR) (got
     select_lines flat m is lined text deeper lent line step own below t d accepted schema =
         one_lines flat m is lined text deeper line step t d (λ u e only. let there = child_accepted t u accepted only in below u e there (own u e there)) schema
 
-    -- the lines of a filter, whose child has its schema
-    pub filter_lines : (predicate : Named ℕ) (m : ℕ) → plan_layer item ≡ layer (filter_op predicate) (m ∷ []) → (lined text deeper : List ℕ) → lined ≡ before ++ line_text path (node_name item) cols → deeper ≡ path ++ 0 ∷ [] → ((u : Plan) → Denotes (HoldsPlan expressions plans) m u → IsAccepted registry u → schema_of registry u ≡ Some cols → text ≡ lined ++ plan_lines registry deeper u) → (t : Plan) → Denotes (HoldsPlan expressions plans) n t → IsAccepted registry t → schema_of registry t ≡ Some cols → text ≡ before ++ plan_lines registry path t
-    filter_lines predicate m is lined text deeper line step below t d accepted schema =
-        let child = kept_item registry expressions plans item FilterWork refl ((predicate ∷ []) ∷ []) None m is t (item_denotes expressions plans n item got t d) accepted in
+    -- the lines of a node that keeps its child's schema
+    pub kept_lines : (m : ℕ) → KeepsInput (plan_layer item) m → (lined text deeper : List ℕ) → lined ≡ before ++ line_text path (node_name item) cols → deeper ≡ path ++ 0 ∷ [] → ((u : Plan) → Denotes (HoldsPlan expressions plans) m u → IsAccepted registry u → schema_of registry u ≡ Some cols → text ≡ lined ++ plan_lines registry deeper u) → (t : Plan) → Denotes (HoldsPlan expressions plans) n t → IsAccepted registry t → schema_of registry t ≡ Some cols → text ≡ before ++ plan_lines registry path t
+    kept_lines m k lined text deeper line step below t d accepted schema =
+        let child = kept_item registry expressions plans item k.work k.keeps k.nodes None m k.is t (item_denotes expressions plans n item got t d) accepted in
         let laws = plan_laws expressions plans in
-        one_lines (filter_op predicate) m is lined text deeper line step t d (λ u e only. let same = denotes_one _ (HoldsPlan expressions plans) laws m u child.0 e child.1 in below u e (child_accepted t u accepted only) (ap (schema_of registry) same ∙ sym child.3 ∙ schema)) schema
+        one_lines (over_op k.work k.nodes None) m k.is lined text deeper line step t d (λ u e only. let same = denotes_one _ (HoldsPlan expressions plans) laws m u child.0 e child.1 in below u e (child_accepted t u accepted only) (ap (schema_of registry) same ∙ sym child.3 ∙ schema)) schema
 
 -- the lines and the number of casts are the report
 pub whole_report : (registry : Registry) (tree : Plan) (start path lined text : List ℕ) (count : ℕ) → start ≡ [] → path ≡ [] → lined ≡ start ++ plan_lines registry path tree → count ≡ cast_count tree → text ≡ lined ++ casts_line count → text ≡ report_text registry tree
@@ -162,6 +196,12 @@ single (HStack exprs input schema options) m e = ap (λ n. n ∷ []) (same_Some 
 single (GroupBy input keys aggs schema maintain_order) m e = ap (λ n. n ∷ []) (same_Some _ m e)
 single (Filter input predicate) m e = ap (λ n. n ∷ []) (same_Some _ m e)
 single (SimpleProjection input schema) m e = ap (λ n. n ∷ []) (same_Some _ m e)
+single (Sort input by_column sort_options) m e = ap (λ n. n ∷ []) (same_Some _ m e)
+single (Distinct input options) m e = ap (λ n. n ∷ []) (same_Some _ m e)
+single (Slice input offset len) m e = ap (λ n. n ∷ []) (same_Some _ m e)
+single (Cache input id cache_hits) m e = ap (λ n. n ∷ []) (same_Some _ m e)
+single (Sink input payload) m e = ap (λ n. n ∷ []) (same_Some _ m e)
+single (MapFunction input function) m e = ap (λ n. n ∷ []) (same_Some _ m e)
 single _ m e = cc
 
 -- an item over none, and one with a first input, which is its only one

@@ -3,13 +3,14 @@ ghost use Rattle.std.specs.Prelude.{◌≡◌, ◌+◌, List, map, IfOk};
 ghost use Rattle.plan_dsl.specs.Ops.{Expression};
 ghost use Rattle.plan_dsl.specs.Plans.{Plan, Named};
 ghost use Rattle.plan_arena.specs.Denotation.{Denotes, DenotesTree};
-ghost use Rattle.plan_arena.specs.Items.{named_node, HoldsExpression, DenoteNamed, HoldsPlan};
+ghost use Rattle.plan_arena.specs.Items.{named_node, nodes_of, plan_layer, HoldsExpression, DenoteNamed, HoldsPlan};
+ghost use Rattle.plan_arena.specs.Layers.{op_of};
 ghost use Rattle.plan_dsl.specs.Counts.{expression_casts, outputs_casts, cast_count};
 ghost use Rattle.plan_report.specs.Casts.{DenoteOutputs};
 
 use plan_arena::aexpr::AExpr;
 use plan_arena::arena::{Arena, Node};
-use plan_arena::expr_ir::ExprIRs;
+use plan_arena::expr_ir::ExprIR;
 use plan_arena::ir::IR;
 use plan_arena::plan::IRPlan;
 use std::alloc::AllocError;
@@ -54,17 +55,30 @@ pub(crate) fn expression_casts(arena: &Arena<AExpr>, node: Node) -> Result<u64, 
     }
 }
 
-/// How many casts the expressions of a node have.
-pub(crate) fn outputs_casts(arena: &Arena<AExpr>, outputs: &ExprIRs) -> Result<u64, AllocError>
-    requires { DenoteOutputs arena.now (map named_node outputs.now.items.items) }
+// How many casts the expressions of a list have.
+fn outputs_casts(arena: &Arena<AExpr>, outputs: &[ExprIR]) -> Result<u64, AllocError>
+    requires { DenoteOutputs arena.now (map named_node outputs.now) }
     ensures { IfOk result (λ count. (trees : List (Named Expression))
-        → DenoteNamed arena.now (map named_node outputs.now.items.items) trees → count ≡ outputs_casts trees) }
+        → DenoteNamed arena.now (map named_node outputs.now) trees → count ≡ outputs_casts trees) }
 {
     let mut count = 0;
-    for output in outputs.items.as_slice() {
+    for output in outputs {
         let casts = expression_casts(arena, output.node())?;
         count = add(count, casts)?;
     }
+    Ok(count)
+}
+
+// How many casts the expressions of a plan's node have.
+fn item_casts(arena: &Arena<AExpr>, item: &IR) -> Result<u64, AllocError>
+    requires { DenoteOutputs arena.now (nodes_of (op_of (plan_layer item.now)).kind) }
+    ensures { IfOk result (λ count. (trees : List (Named Expression))
+        → DenoteNamed arena.now (nodes_of (op_of (plan_layer item.now)).kind) trees → count ≡ outputs_casts trees) }
+{
+    let (first, later) = item.expressions();
+    let first = outputs_casts(arena, first)?;
+    let later = outputs_casts(arena, later)?;
+    let count = add(first, later)?;
     Ok(count)
 }
 
@@ -75,43 +89,13 @@ pub(crate) fn plan_casts(plan: &IRPlan, node: Node) -> Result<u64, AllocError>
         → count ≡ cast_count tree) }
 {
     let item = plan.lp_arena.get(node);
-    match item {
-        IR::DataFrameScan { .. } => Ok(0),
-        IR::Invalid => unreachable!(),
-        IR::Filter { input, predicate } => {
-            let here = expression_casts(&plan.expr_arena, predicate.node())?;
-            let below = plan_casts(plan, *input)?;
+    let here = item_casts(&plan.expr_arena, item)?;
+    match item.get_input() {
+        None => Ok(here),
+        Some(input) => {
+            let below = plan_casts(plan, input)?;
             let count = add(here, below)?;
             Ok(count)
-        }
-        IR::Select { expr, input, .. } => {
-            let here = outputs_casts(&plan.expr_arena, expr)?;
-            let below = plan_casts(plan, *input)?;
-            let count = add(here, below)?;
-            Ok(count)
-        }
-        IR::HStack { exprs, input, .. } => {
-            let here = outputs_casts(&plan.expr_arena, exprs)?;
-            let below = plan_casts(plan, *input)?;
-            let count = add(here, below)?;
-            Ok(count)
-        }
-        IR::GroupBy {
-            input,
-            keys,
-            aggs,
-            ..
-        } => {
-            let first = outputs_casts(&plan.expr_arena, keys)?;
-            let later = outputs_casts(&plan.expr_arena, aggs)?;
-            let here = add(first, later)?;
-            let below = plan_casts(plan, *input)?;
-            let count = add(here, below)?;
-            Ok(count)
-        }
-        IR::SimpleProjection { input, .. } => {
-            let below = plan_casts(plan, *input)?;
-            Ok(below)
         }
     }
 }

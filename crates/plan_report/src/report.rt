@@ -14,7 +14,6 @@ ghost use Rattle.plan_report.specs.Texts.{schema_text, type_text};
 use crate::casts::plan_casts;
 use crate::texts::{kind_name, push_number, push_path, push_schema, push_type};
 use plan_arena::arena::Node;
-use plan_arena::ir::IR;
 use plan_arena::plan::IRPlan;
 use plan_types::dtype::DataType;
 use plan_types::error::{Place, PlanError};
@@ -110,9 +109,9 @@ fn push_lines(
 {
     let item = plan.lp_arena.get(node);
     push_line(alloc, text, path.as_slice(), item.name(), schema)?;
-    match item {
-        IR::Filter { input, .. } => lines_below!(alloc, text, path, plan, *input, schema),
-        _ => match item.get_input() {
+    match item.kept_input() {
+        Some(kept) => lines_below!(alloc, text, path, plan, kept, schema),
+        None => match item.get_input() {
             None => Ok(()),
             Some(input) => {
                 let schema = plan.lp_arena.get(input).schema_ref(&plan.lp_arena);

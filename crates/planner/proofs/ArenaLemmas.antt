@@ -4,6 +4,7 @@ use Rattle.plan_types.specs.Schemas.{Columns, columns}
 use Rattle.plan_types.specs.declared.schema.Schema.{Schema}
 use Rattle.plan_dsl.specs.Ops.{Expression}
 use Rattle.plan_dsl.specs.Plans.{Named, Plan, PlanKind, PlanOp, FilterKind, ScanKind, filter_op, scan_op}
+use Rattle.plan_dsl.specs.declared.function.FunctionIR.TheVariants.{Rechunk}
 use Rattle.plan_dsl.specs.Trees.{Trees, node, no_more, more}
 use Rattle.plan_arena.specs.Denotation.{DenoteAll, Denotes, DenotesTree}
 use Rattle.plan_arena.specs.Items.{DenoteNamed, DenotesKind, DenotesOp, HoldsExpression, HoldsPlan, named_node, plan_layer}
@@ -12,7 +13,7 @@ use Rattle.plan_arena.specs.declared.aexpr.AExpr.{AExpr}
 use Rattle.plan_arena.specs.declared.arena.Node.{Node}
 use Rattle.plan_arena.specs.declared.expr_ir.ExprIR.{ExprIR}
 use Rattle.plan_arena.specs.declared.ir.IR.{IR}
-use Rattle.plan_arena.specs.declared.ir.IR.TheVariants.{DataFrameScan, Filter, GroupBy, HStack, Select, SimpleProjection, Invalid}
+use Rattle.plan_arena.specs.declared.ir.IR.TheVariants.{Cache, DataFrameScan, Distinct, Filter, GroupBy, HStack, MapFunction, Select, SimpleProjection, Sink, Slice, Sort, Invalid}
 use Rattle.plan_arena.proofs.DenotationLemmas.{some_same}
 use Rattle.plan_arena.proofs.ItemLemmas.{filter_denoted, layer_inputs, layer_op, plan_got}
 use Rattle.planner.specs.Planning.{filtered_scan, scan}
@@ -96,6 +97,12 @@ module _ (expressions : List AExpr) (plans : List IR) where
   no_filter (HStack exprs input schema options) p other d = let e = d.1 in cc
   no_filter (Select expr input schema options) p other d = let e = d.1 in cc
   no_filter (SimpleProjection input schema) p other d = let e = d.1 in cc
+  no_filter (Sort input by_column sort_options) p other d = let e = d.1 in cc
+  no_filter (Distinct input options) p other d = let e = d.1 in cc
+  no_filter (Slice input offset len) p other d = let e = d.1 in cc
+  no_filter (Cache input id cache_hits) p other d = let e = d.1 in cc
+  no_filter (Sink input payload) p other d = let e = d.1 in cc
+  no_filter (MapFunction input Rechunk) p other d = let e = d.1 in cc
   no_filter Invalid p other d = d
 
   no_scan : (item : IR) (table : Option ℕ) (own : Columns) → ((table : Option ℕ) (schema : Schema) → item ≢ DataFrameScan table schema) → DenotesKind expressions (op_of (plan_layer item)).kind (ScanKind table own) → ⊥
@@ -105,6 +112,12 @@ module _ (expressions : List AExpr) (plans : List IR) where
   no_scan (HStack exprs input schema options) t own other d = let e = d.1 in cc
   no_scan (Select expr input schema options) t own other d = let e = d.1 in cc
   no_scan (SimpleProjection input schema) t own other d = let e = d.1 in cc
+  no_scan (Sort input by_column sort_options) t own other d = let e = d.1 in cc
+  no_scan (Distinct input options) t own other d = let e = d.1 in cc
+  no_scan (Slice input offset len) t own other d = let e = d.1 in cc
+  no_scan (Cache input id cache_hits) t own other d = let e = d.1 in cc
+  no_scan (Sink input payload) t own other d = let e = d.1 in cc
+  no_scan (MapFunction input Rechunk) t own other d = let e = d.1 in cc
   no_scan Invalid t own other d = d
 
   -- the kind that an item is, as its node denotes it

@@ -11,13 +11,18 @@ ghost use Rattle.plan_types.specs.declared.dtype.CastOptions.TheVariants.{Strict
 ghost use Rattle.plan_types.specs.declared.dtype.DataType.TheVariants.{Int32, UInt16};
 ghost use Rattle.plan_dsl.specs.declared.literal.LiteralValue.TheVariants.{Int, Int8, UInt64};
 ghost use Rattle.plan_dsl.specs.declared.operator.Operator.TheVariants.{Plus};
+ghost use Rattle.plan_dsl.specs.declared.distinct_options.ColumnNames.{ColumnNames};
+ghost use Rattle.plan_dsl.specs.declared.distinct_options.UniqueKeepStrategy.TheVariants.{Any, Last};
+ghost use Rattle.plan_dsl.specs.declared.distinct_options.DistinctOptionsIR.{DistinctOptionsIR};
+ghost use Rattle.plan_dsl.specs.declared.function.FunctionIR.TheVariants.{Rechunk};
 ghost use Rattle.plan_dsl.specs.declared.plan.ProjectionOptions.{ProjectionOptions};
+ghost use Rattle.plan_dsl.specs.declared.plan.SinkType.TheVariants.{Memory};
 ghost use Rattle.plan_dsl.specs.declared.sort_options.SortMultipleOptions.{SortMultipleOptions};
 ghost use Rattle.plan_dsl.specs.declared.window.WindowType.TheVariants.{GroupsToRows};
 ghost use Rattle.plan_dsl.specs.Trees.{node, no_more, more};
 ghost use Rattle.plan_dsl.specs.Names.{FromField, FromNothing, alias_label, column_label, literal_label};
 ghost use Rattle.plan_dsl.specs.Ops.{ColumnOp, LiteralOp, BinaryOp, CastOp, LenOp, SliceOp, AliasOp, ExplodeOp, GatherOp, FilterOp, SortOp, SortByOp, WindowOp, Expression};
-ghost use Rattle.plan_dsl.specs.Plans.{FilterKind, GroupByKind, HStackKind, Named, OrderOption, ProjectionOption, RefusedKind, ScanKind, SelectKind, named, scan_op, select_op, hstack_op, group_by_op, simple_projection_op, filter_op, GroupByWork, HStackWork, OverKind, PassWork, RechunkPass, SelectWork, SinkPass, SliceWork, SortWork, DropKind, SimpleProjectionKind};
+ghost use Rattle.plan_dsl.specs.Plans.{FilterKind, GroupByKind, HStackKind, Named, OrderOption, ProjectionOption, RefusedKind, ScanKind, SelectKind, named, scan_op, select_op, hstack_op, group_by_op, simple_projection_op, filter_op, GroupByWork, HStackWork, OverKind, CachePass, DistinctWork, HitsOption, PassWork, RechunkPass, SelectWork, over_op, SinkPass, SliceWork, SortWork, DropKind, SimpleProjectionKind};
 ghost use Rattle.plan_dsl.specs.Samples.{Gives, GivesOfTwo, int8, int32, a, alias, b, cast_as, column, count, keep, literal, over, over_by, slice, sort_by, sum, typed_literal, way, schema_ab};
 ghost use Rattle.plan_arena.specs.declared.aexpr.AExpr.{AExpr};
 ghost use Rattle.plan_arena.specs.declared.aexpr.AExpr.TheVariants.{Column, Literal, BinaryExpr, Cast, Len, Slice, Alias, Explode, Gather, Filter as FilterBy, Sort, SortBy, Window};
@@ -27,11 +32,11 @@ ghost use Rattle.plan_arena.specs.declared.expr_ir.ExprIR.{ExprIR};
 ghost use Rattle.plan_arena.specs.declared.expr_ir.ExprIRs.{ExprIRs};
 ghost use Rattle.plan_arena.specs.declared.expr_ir.OutputName.{OutputName};
 ghost use Rattle.plan_arena.specs.declared.expr_ir.OutputName.TheVariants.{ColumnLhs, LiteralLhs};
-ghost use Rattle.plan_arena.specs.declared.ir.IR.TheVariants.{DataFrameScan, Filter, GroupBy, HStack, Select, SimpleProjection, Invalid};
+ghost use Rattle.plan_arena.specs.declared.ir.IR.TheVariants.{Cache, DataFrameScan, Distinct, Filter, GroupBy, HStack, MapFunction, Select, SimpleProjection, Sink, Slice as SliceItem, Sort as SortItem, Invalid};
 ghost use Rattle.plan_arena.specs.declared.plan.IRPlan.{IRPlan};
 ghost use Rattle.plan_arena.specs.Layers.{layer, op_of, inputs_of, shape_of};
 ghost use Rattle.plan_arena.specs.Denotation.{Denotes, DenotesTree, depth_at, greatest, inputs_at};
-ghost use Rattle.plan_arena.specs.Items.{expression_layer, kind_text, output_label, named_node, node_name, ordered, ordering, passed, plan_layer, work_text, DenoteNamed, DenotesItem, DenotesKind, DenotesPlan, Grows, HasInputs, HoldsExpression, HoldsFrom, HoldsPlan, Rewired};
+ghost use Rattle.plan_arena.specs.Items.{expression_layer, kind_text, output_label, named_node, node_name, nodes_of, ordered, ordering, passed, plan_layer, work_text, DenoteNamed, DenotesItem, DenotesKind, DenotesPlan, Grows, HasInputs, HoldsExpression, HoldsFrom, HoldsPlan, KeepsInput, Rewired};
 ghost use Rattle.plan_arena.specs.NamedNodes.{same_named};
 ghost use Rattle.plan_arena.specs.Options.{option_of, options_of};
 ghost use Rattle.plan_arena.specs.Samples.{a_at, circle, literal_at, named_at, node_at, strict_sum, sum_items, wide_a};
@@ -70,6 +75,26 @@ pub fn layers_of_items()
     ensures names { (schema : Schema) (input : Node) (predicate : ExprIR) (exprs : ExprIRs) (options : ProjectionOptions) → Gives node_name
         ((DataFrameScan (Some 0) schema, codes "df") ∷ (DataFrameScan None schema, codes "df") ∷ (Filter input predicate, codes "selection")
         ∷ (GroupBy input exprs exprs schema false, codes "aggregate") ∷ (HStack exprs input schema options, codes "hstack") ∷ (Select exprs input schema options, codes "projection") ∷ (SimpleProjection input schema, codes "simple_projection") ∷ (Invalid, codes "invalid") ∷ []) }
+{}
+
+/// A sort, a distinct, a slice and what passes its rows on keep their input's schema, and record none.
+pub fn items_over_an_input()
+    ensures sort { (by : ExprIRs) (options : SortMultipleOptions) → by.items.items ≡ a_at 3 ∷ a_at 4 ∷ [] → options.descending.items.value.items ≡ true ∷ [] → options.nulls_last.items.value.items ≡ false ∷ true ∷ [] →
+        plan_layer (SortItem (node_at 5) by options) ≡ layer (over_op (SortWork (true ∷ []) (false ∷ true ∷ [])) ((named_at "a" 3 ∷ named_at "a" 4 ∷ []) ∷ []) None) (5 ∷ []) }
+    ensures distinct { (options : DistinctOptionsIR) (names : ColumnNames) → options.subset ≡ Some names → names.items.items ≡ codes "b" ∷ [] → options.keep_strategy ≡ Last → options.maintain_order ≡ true →
+        (plan_layer (Distinct (node_at 5) options) ≡ layer (over_op (DistinctWork Last (Some (codes "b" ∷ []))) [] None) (5 ∷ [])) × (option_of (Distinct (node_at 5) options) ≡ OrderOption true ∷ []) }
+    ensures distinct_rows { (options : DistinctOptionsIR) → options.subset ≡ None → options.keep_strategy ≡ Any → plan_layer (Distinct (node_at 5) options) ≡ layer (over_op (DistinctWork Any None) [] None) (5 ∷ []) }
+    ensures others { Gives plan_layer ((SliceItem (node_at 5) (neg_ℤ (pos 2)) 3, layer (over_op (SliceWork (neg_ℤ (pos 2)) 3) [] None) (5 ∷ []))
+        ∷ (Cache (node_at 5) 7 2, layer (over_op (PassWork (CachePass 7)) [] None) (5 ∷ [])) ∷ (Sink (node_at 5) Memory, layer (over_op (PassWork SinkPass) [] None) (5 ∷ []))
+        ∷ (MapFunction (node_at 5) Rechunk, layer (over_op (PassWork RechunkPass) [] None) (5 ∷ [])) ∷ []) }
+    ensures names { (input : Node) (by : ExprIRs) (flags : SortMultipleOptions) (options : DistinctOptionsIR) → Gives node_name
+        ((SortItem input by flags, codes "sort") ∷ (Distinct input options, codes "distinct") ∷ (SliceItem input (pos 0) 0, codes "slice")
+        ∷ (Cache input 7 2, codes "cache") ∷ (Sink input Memory, codes "sink (memory)") ∷ (MapFunction input Rechunk, codes "map_function") ∷ []) }
+    ensures options { (input : Node) (by : ExprIRs) (flags : SortMultipleOptions) → Gives option_of
+        ((SortItem input by flags, []) ∷ (SliceItem input (pos 0) 0, []) ∷ (Cache input 7 2, HitsOption 2 ∷ []) ∷ (Sink input Memory, []) ∷ (MapFunction input Rechunk, []) ∷ []) }
+    ensures expressions { Gives nodes_of ((GroupByKind (named_at "a" 3 ∷ named_at "a" 1 ∷ []) (named_at "a" 4 ∷ []), named_at "a" 3 ∷ named_at "a" 1 ∷ named_at "a" 4 ∷ [])
+        ∷ (SelectKind (named_at "a" 3 ∷ []), named_at "a" 3 ∷ []) ∷ (OverKind (SliceWork (pos 0) 1) [], []) ∷ (ScanKind None [], []) ∷ []) }
+    ensures keeps { KeepsInput (layer (over_op (SliceWork (pos 0) 1) [] None) (5 ∷ [])) 5 }
 {}
 
 /// The option of an item, and those of an arena's items in the order of their numbers.

@@ -1,6 +1,6 @@
 //! Parts of the rules of plans and of what their nodes give, each by itself.
 
-ghost use Rattle.std.specs.Prelude.{◌≡◌, [], ◌∷◌, pos, map, codes, true, false, Some, None, option_map, Result, Ok, Err};
+ghost use Rattle.std.specs.Prelude.{◌≡◌, [], ◌∷◌, pos, neg_ℤ, map, codes, true, false, Some, None, option_map, Result, Ok, Err};
 ghost use Rattle.plan_types.specs.Schemas.{columns};
 ghost use Rattle.plan_types.specs.Types.{NullType, Truth, TextType, ListType, Untyped};
 ghost use Rattle.plan_types.specs.Values.{NullValue, IntValue};
@@ -10,7 +10,15 @@ ghost use Rattle.plan_types.specs.declared.error.ErrorKind.TheVariants.{ColumnNo
 ghost use Rattle.plan_types.specs.declared.schema.Schema.{Schema};
 ghost use Rattle.plan_dsl.specs.declared.expr.Expr.TheVariants.{Column};
 ghost use Rattle.plan_dsl.specs.declared.operator.Operator.TheVariants.{Minus};
-ghost use Rattle.plan_dsl.specs.declared.plan.DslPlan.TheVariants.{DataFrameScan, Filter', GroupBy', Select'};
+ghost use Rattle.plan_dsl.specs.declared.plan.DslPlan.TheVariants.{Cache', DataFrameScan, Distinct', Filter', GroupBy', MapFunction', Select', Sink', Slice', Sort'};
+ghost use Rattle.plan_dsl.specs.declared.distinct_options.DistinctOptionsDSL.{DistinctOptionsDSL};
+ghost use Rattle.plan_dsl.specs.declared.distinct_options.UniqueKeepStrategy.TheVariants.{First, Last};
+ghost use Rattle.plan_dsl.specs.declared.function.DslFunction.TheVariants.{FunctionIR as OfFunctionIR};
+ghost use Rattle.plan_dsl.specs.declared.function.FunctionIR.TheVariants.{Rechunk};
+ghost use Rattle.plan_dsl.specs.declared.plan.SinkType.TheVariants.{Memory};
+ghost use Rattle.plan_dsl.specs.declared.selector.Selectors.{Selectors};
+ghost use Rattle.plan_dsl.specs.declared.sort_options.SortMultipleOptions.{SortMultipleOptions};
+ghost use Rattle.plan_dsl.specs.Expressions.{selector_trees, trees_of};
 ghost use Rattle.plan_dsl.specs.declared.expr.Exprs.{Exprs};
 ghost use Rattle.plan_dsl.specs.declared.plan.ProjectionOptions.{ProjectionOptions};
 ghost use Rattle.plan_dsl.specs.Trees.{node, no_more, more};
@@ -21,7 +29,7 @@ ghost use Rattle.plan_dsl.specs.Kernels.{Meaning, in_front};
 ghost use Rattle.plan_dsl.specs.Picks.{where_true};
 ghost use Rattle.plan_dsl.specs.Laws.{operator_node};
 ghost use Rattle.plan_dsl.specs.Sources.{Plain};
-ghost use Rattle.plan_dsl.specs.Plans.{FilterWork, ScanKind, SelectKind, FilterKind, OrderOption, ProjectionOption, Named, named, over_input, expressions_of, scans_in, scan_op, select_op, filter_op, plan_tree, options_in};
+ghost use Rattle.plan_dsl.specs.Plans.{CachePass, DistinctWork, HitsOption, PassWork, RechunkPass, SinkPass, SliceWork, SortWork, over_op, FilterWork, ScanKind, SelectKind, FilterKind, OrderOption, ProjectionOption, Named, named, over_input, expressions_of, scans_in, scan_op, select_op, filter_op, plan_tree, options_in};
 ghost use Rattle.plan_dsl.specs.PlanRules.{scan_kinds, typed_kinds, own_kinds, input_schema, expression_kinds, broken_kinds, columns_of, typed_outputs, schema_by, plan_rule, top_kinds};
 ghost use Rattle.plan_dsl.specs.PlanKernels.{Evaluated, series_on, shared_length, rows_of, kept_rows};
 ghost use Rattle.plan_dsl.specs.Samples.{Gives, GivesOfTwo, int8, null, yes, no, number, column, a, b, c, u, many_values, of_one, of_many, sum, equal, frame_with, schema_au, uint64, scan, scan_of, empty_scan, select, keep, series};
@@ -39,6 +47,22 @@ pub fn trees_of_plans()
         options_in (Select' expr p (Filter' q (GroupBy' s (Select' inner r (DataFrameScan None schema) checked) keys aggs true) (Column (codes "keep"))) unchecked)
         ≡ ProjectionOption unchecked ∷ OrderOption true ∷ ProjectionOption checked ∷ [] }
     ensures operator { operator_node Minus a b ≡ node (BinaryOp Minus) (more a (more b no_more)) }
+{}
+
+/// A sort, a distinct, a slice, and what passes its rows on are nodes over one input. Some keep options beside the tree.
+pub fn trees_over_one_input()
+    ensures sort { (p : _) (by : Exprs) (options : SortMultipleOptions) (schema : Schema) → options.descending.items.value.items ≡ true ∷ false ∷ [] → options.nulls_last.items.value.items ≡ true ∷ [] →
+        plan_tree (Sort' p (DataFrameScan (Some 0) schema) by options) ≡ node (over_op (SortWork (true ∷ false ∷ []) (true ∷ [])) (trees_of by ∷ []) None) (more (scan (columns schema)) no_more) }
+    ensures distinct { (p : _) (options : DistinctOptionsDSL) (schema : Schema) → options.subset ≡ None → options.keep_strategy ≡ Last →
+        plan_tree (Distinct' p (DataFrameScan (Some 0) schema) options) ≡ node (over_op (DistinctWork Last None) [] None) (more (scan (columns schema)) no_more) }
+    ensures distinct_by { (p : _) (options : DistinctOptionsDSL) (by : Selectors) (schema : Schema) → options.subset ≡ Some by → options.keep_strategy ≡ First →
+        plan_tree (Distinct' p (DataFrameScan (Some 0) schema) options) ≡ node (over_op (DistinctWork First None) (selector_trees by ∷ []) None) (more (scan (columns schema)) no_more) }
+    ensures slice { (p : _) (schema : Schema) → plan_tree (Slice' p (DataFrameScan (Some 0) schema) (neg_ℤ (pos 2)) 3) ≡ node (over_op (SliceWork (neg_ℤ (pos 2)) 3) [] None) (more (scan (columns schema)) no_more) }
+    ensures cache { (p : _) (schema : Schema) → plan_tree (Cache' p (DataFrameScan (Some 0) schema) 7) ≡ node (over_op (PassWork (CachePass 7)) [] None) (more (scan (columns schema)) no_more) }
+    ensures sink { (p : _) (schema : Schema) → plan_tree (Sink' p (DataFrameScan (Some 0) schema) Memory) ≡ node (over_op (PassWork SinkPass) [] None) (more (scan (columns schema)) no_more) }
+    ensures rechunk { (p : _) (schema : Schema) → plan_tree (MapFunction' p (DataFrameScan (Some 0) schema) (OfFunctionIR Rechunk)) ≡ node (over_op (PassWork RechunkPass) [] None) (more (scan (columns schema)) no_more) }
+    ensures options { (p q r s t : _) (by : Exprs) (way : SortMultipleOptions) (options : DistinctOptionsDSL) (schema : Schema) → options.maintain_order ≡ true →
+        options_in (Cache' p (Sort' q (Distinct' r (Sink' s (Slice' t (DataFrameScan None schema) (pos 0) 1) Memory) options) by way) 7) ≡ HitsOption 4294967295 ∷ OrderOption true ∷ [] }
 {}
 
 /// What a scan, a select and a filter break.

@@ -29,7 +29,7 @@ pub fn fault_examples()
         (fault.a_type, keyed_twice "Datetime" null "Duration" null) ∷ (fault.a_type, object no_members) ∷ (fault.a_type, list (word "Date" ∷ [])) ∷
         (fault.a_unit, word "s") ∷ (fault.field_list, object no_members) ∷ (fault.a_column, list (null ∷ null ∷ null ∷ [])) ∷
         (fault.a_column, list (null ∷ [])) ∷ (fault.column_list, list (a ∷ null ∷ a ∷ [])) ∷ (fault.a_new_name (codes "s" ∷ []), null) ∷
-        (fault.a_plan [], keyed "sink" null) ∷ (fault.a_plan [], keyed_twice "empty" null "scan" null) ∷ (fault.an_expression, keyed "neg" (whole 1)) ∷
+        (fault.a_plan [], keyed "store" null) ∷ (fault.a_plan [], keyed_twice "empty" null "scan" null) ∷ (fault.an_expression, keyed "neg" (whole 1)) ∷
         (fault.an_operator, word "Power") ∷ (fault.an_operator, below_zero 0) ∷ (a_cast, list (null ∷ word "Int8" ∷ [])) ∷ (fault.a_mode, word "strict") ∷
         (fault.an_index, whole 9223372036854775808) ∷ (fault.an_index, null) ∷ (fault.an_excluded, keyed "col" null) ∷ (fault.an_excluded, keyed_twice "dtype" null "name" null) ∷
         (fault.an_excluded, word "a") ∷ (leaf_list leaves.Name, word "a") ∷ (leaf_list leaves.Excluded, keyed "name" null) ∷
@@ -78,7 +78,7 @@ pub fn fault_examples()
         ((a_filter names, list (d ∷ e ∷ [])), in_turn ((fault.a_plan names, d) ∷ (expression_over names, e) ∷ [])) ∷
         ((a_selection names, list (d ∷ e ∷ [])), in_turn ((fault.a_plan names, d) ∷ (expression_list names, e) ∷ [])) ∷
         ((expression_list [], list (d ∷ e ∷ [])), in_turn ((fault.an_expression, d) ∷ (fault.an_expression, e) ∷ [])) ∷ []) }
-    ensures no_parts_of_plans { (names : List Name) (d e : Data) → GivesAll parts_in [] ((fault.a_plan names, keyed "sink" d) ∷ (fault.a_plan names, keyed_twice "empty" d "scan" e) ∷ []) }
+    ensures no_parts_of_plans { (names : List Name) (d e : Data) → GivesAll parts_in [] ((fault.a_plan names, keyed "store" d) ∷ (fault.a_plan names, keyed_twice "empty" d "scan" e) ∷ []) }
     ensures parts_of_expressions { (d e f : Data) → Gives parts_in (
         ((fault.an_expression, keyed "col" d), under "col" fault.a_text d) ∷ ((fault.an_expression, keyed "lit" d), under "lit" fault.a_literal d) ∷
         ((fault.an_expression, keyed "int" d), under "int" fault.a_number_text d) ∷ ((fault.an_expression, keyed "typed" d), under "typed" fault.a_typed_literal d) ∷

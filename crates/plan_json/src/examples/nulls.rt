@@ -9,6 +9,7 @@ ghost use Rattle.plan_dsl.specs.Sources.{written};
 ghost use Rattle.plan_dsl.specs.declared.function_expr.FunctionExpr.TheVariants.{AllHorizontal, FillNull, IsNotNull};
 ghost use Rattle.plan_json.specs.Faults.{BadFloat, BadShape, a_plan, optional_form, own_fault};
 ghost use Rattle.plan_json.specs.Samples.{Gives, GivesAll, col, column, empty_value, every_column, expression_list, fault_along, keyed, list, to, whole, word};
+ghost use Rattle.plan_json.specs.Forms.{expression};
 ghost use Rattle.plan_json.specs.Queries.{plan_of};
 ghost use Rattle.plan_json.specs.Faults as fault;
 
@@ -20,7 +21,7 @@ pub fn drop_nulls_examples()
         (empty_value ∷ list (col "a" ∷ every_column ∷ []) ∷ [], Some (source_filter (source_call AllHorizontal (source_call IsNotNull (written (column "a") ∷ []) ∷ source_call IsNotNull (all ∷ []) ∷ [])) empty_table)) ∷ []) }
     ensures unread { GivesAll (λ items. plan_of [] (keyed "drop_nulls" (list items))) None ((empty_value ∷ []) ∷ (empty_value ∷ col "a" ∷ []) ∷ (empty_value ∷ boolean false ∷ []) ∷
         (empty_value ∷ list (null ∷ []) ∷ []) ∷ (empty_value ∷ list (word "a" ∷ []) ∷ []) ∷ (empty_value ∷ null ∷ null ∷ []) ∷ (null ∷ empty_value ∷ []) ∷ (list [] ∷ empty_value ∷ []) ∷ []) }
-    ensures own { (x : Float) → Gives (own_fault (optional_form [])) ((null, None) ∷ (list [], None) ∷ (list (null ∷ null ∷ null ∷ null ∷ null ∷ []), None) ∷
+    ensures own { (x : Float) → Gives (own_fault (optional_form [] expression)) ((null, None) ∷ (list [], None) ∷ (list (null ∷ null ∷ null ∷ null ∷ null ∷ []), None) ∷
         (col "a", Some BadShape) ∷ (whole 0, Some BadShape) ∷ (boolean false, Some BadShape) ∷ (number (float x), Some BadFloat) ∷ []) }
     ensures faults { let at : Data → Data = λ items. keyed "drop_nulls" (list (empty_value ∷ items ∷ [])) in
         Gives fault_along (((a_plan [], at null, to "drop_nulls" (fault.number 1 ∷ [])), None) ∷ ((a_plan [], at (col "a"), to "drop_nulls" (fault.number 1 ∷ [])), Some BadShape) ∷

@@ -39,14 +39,14 @@ pub(crate) fn columns_left(
 fn lacks_some(strict: bool, schema: &Schema, names: &IndexSet<PlSmallStr>) -> bool
     ensures { result ≡ (strict && not (have_names (columns schema.now) names.now.keys)) }
 {
-    strict && !has_names(schema, names)
+    strict && !has_each(schema, names.as_slice())
 }
 
-// Whether the schema has a column of each of the names.
-fn has_names(schema: &Schema, names: &IndexSet<PlSmallStr>) -> bool
-    ensures { result ≡ have_names (columns schema.now) names.now.keys }
+/// Whether the schema has a column of each of the names.
+pub(crate) fn has_each(schema: &Schema, names: &[PlSmallStr]) -> bool
+    ensures { result ≡ have_names (columns schema.now) names.now }
 {
-    for name in names.iter() {
+    for name in names {
         if !schema.contains(name) {
             return false;
         }

@@ -8,12 +8,12 @@ ghost use Rattle.plan_dsl.specs.Resolving.{resolved};
 ghost use Rattle.plan_arena.specs.Items.{Grows, plan_layer};
 ghost use Rattle.plan_arena.specs.Layers.{layer};
 ghost use Rattle.plan_arena.specs.Options.{options_of};
-ghost use Rattle.plan_lower.specs.Lowering.{StandsFor, IsPlanRefusal, Records, recorded_at, columns_at, Answers, IsTyped, HasLoweredTop, HasBoundedTop, IsSplit, IsSound, GivesSameFrame};
+ghost use Rattle.plan_lower.specs.Lowering.{StandsFor, IsPlanRefusal, recorded_at, columns_at, Answers, IsTyped, HasLoweredTop, HasBoundedTop, IsSplit, IsSound, GivesSameFrame};
 ghost use Rattle.plan_lower.specs.Nodes.{KeepsExpressions};
-ghost use Rattle.plan_lower.specs.Steps.{options_above, source_step};
+ghost use Rattle.plan_lower.specs.Steps.{AddsStep, source_step, step_option};
 
-use crate::conversion::nodes::{LoweredNode, lower_step};
-use crate::conversion::step::Step;
+use crate::conversion::nodes::lower_step;
+use crate::conversion::step::{LoweredNode, Plain, Step};
 use plan_arena::aexpr::AExpr;
 use plan_arena::arena::Arena;
 use plan_arena::ir::IR;
@@ -57,6 +57,14 @@ impl PlanLowering for DslPlan {
     }
 }
 
+// Adds the nodes of an only input, and then what the step becomes.
+macro_rules! over {
+    ($input:ident => $step:expr, $expr_arena:ident, $lp_arena:ident, $udfs:ident) => {{
+        let step = $step;
+        add_over($input, step, $expr_arena, $lp_arena, $udfs)
+    }};
+}
+
 // Adds a plan's nodes, its input first.
 #[cycle(plans)]
 fn lower(
@@ -66,50 +74,48 @@ fn lower(
     udfs: &Udfs,
 ) -> Result<LoweredNode, PlanError>
     ensures ok { IfOk result (λ lowered. StandsFor (registry udfs.now) expr_arena.new lp_arena.new lowered.node.0 (columns_at lp_arena.new lowered.schema_node.0) (resolved (registry udfs.now) (plan_tree plan))) }
-    ensures recorded { IfOk result (λ lowered. Records lp_arena.new lowered.schema_node.0) }
     ensures err { IfErr result (IsPlanRefusal (registry udfs.now) (resolved (registry udfs.now) (plan_tree plan))) }
     ensures kept { KeepsExpressions expr_arena.old expr_arena.new }
-    ensures grows { Grows lp_arena.old lp_arena.new }
-    ensures options { OnOk result (options_of lp_arena.new ≡ options_of lp_arena.old ++ reverse (options_in plan)) }
+    ensures adds { AddsStep lp_arena.old lp_arena.new (reverse (options_in plan)) result }
 {
     match plan {
         DslPlan::DataFrameScan { table, schema } => {
             let lowered = lower_scan(table, schema, lp_arena)?;
             Ok(lowered)
         }
-        DslPlan::Filter { input, predicate } => {
-            let step = Step::Filter(predicate);
-            add_over(input, step, expr_arena, lp_arena, udfs)
-        }
+        DslPlan::Filter { input, predicate } =>
+            over!(input => Step::Filter(predicate), expr_arena, lp_arena, udfs),
         DslPlan::Select {
             expr,
             input,
             options,
-        } => {
-            let step = Step::Select(expr, options);
-            add_over(input, step, expr_arena, lp_arena, udfs)
-        }
+        } => over!(input => Step::Select(expr, options), expr_arena, lp_arena, udfs),
         DslPlan::HStack {
             exprs,
             input,
             options,
-        } => {
-            let step = Step::HStack(exprs, options);
-            add_over(input, step, expr_arena, lp_arena, udfs)
-        }
+        } => over!(input => Step::HStack(exprs, options), expr_arena, lp_arena, udfs),
         DslPlan::GroupBy {
             input,
             keys,
             aggs,
             maintain_order,
-        } => {
-            let step = Step::GroupBy(keys, aggs, maintain_order);
-            add_over(input, step, expr_arena, lp_arena, udfs)
-        }
-        DslPlan::MapFunction { input, function } => {
-            let step = Step::Function(function);
-            add_over(input, step, expr_arena, lp_arena, udfs)
-        }
+        } => over!(input => Step::GroupBy(keys, aggs, maintain_order), expr_arena, lp_arena, udfs),
+        DslPlan::MapFunction { input, function } =>
+            over!(input => Step::Function(function), expr_arena, lp_arena, udfs),
+        DslPlan::Slice { input, offset, len } =>
+            over!(input => Step::Plain(Plain::Slice(offset, len)), expr_arena, lp_arena, udfs),
+        DslPlan::Cache { input, id } =>
+            over!(input => Step::Plain(Plain::Cache(id)), expr_arena, lp_arena, udfs),
+        DslPlan::Sink { input, payload } =>
+            over!(input => Step::Plain(Plain::Sink(payload)), expr_arena, lp_arena, udfs),
+        DslPlan::Distinct { input, options } =>
+            over!(input => Step::Distinct(options), expr_arena, lp_arena, udfs),
+        DslPlan::Sort {
+            input,
+            by_column,
+            sort_options,
+        } => over!(input => Step::Sort(by_column, sort_options), expr_arena, lp_arena, udfs),
     }
 }
 
@@ -123,11 +129,9 @@ fn add_over(
     udfs: &Udfs,
 ) -> Result<LoweredNode, PlanError>
     ensures ok { IfOk result (λ lowered. StandsFor (registry udfs.now) expr_arena.new lp_arena.new lowered.node.0 (columns_at lp_arena.new lowered.schema_node.0) (resolved (registry udfs.now) (source_step step (plan_tree input.value)))) }
-    ensures recorded { IfOk result (λ lowered. Records lp_arena.new lowered.schema_node.0) }
     ensures err { IfErr result (IsPlanRefusal (registry udfs.now) (resolved (registry udfs.now) (source_step step (plan_tree input.value)))) }
     ensures kept { KeepsExpressions expr_arena.old expr_arena.new }
-    ensures grows { Grows lp_arena.old lp_arena.new }
-    ensures options { OnOk result (options_of lp_arena.new ≡ options_of lp_arena.old ++ reverse (options_above step (options_in input.value))) }
+    ensures adds { AddsStep lp_arena.old lp_arena.new (reverse (step_option step ++ options_in input.value)) result }
 {
     match lower(Box::into_inner(input), expr_arena, lp_arena, udfs) {
         Ok(input) => {

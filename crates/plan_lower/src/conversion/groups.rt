@@ -1,30 +1,30 @@
 //! The keys and aggregates of a group-by, lowered together.
-ghost use Rattle.std.specs.Prelude.{◌≡◌, ◌++◌, ℕ, List, [], ◌∷◌, true, Ok, OnOk, IfOk, IfErr, map, is_some};
+ghost use Rattle.std.specs.Prelude.{◌≡◌, ◌++◌, ℕ, List, true, Ok, IfOk, IfErr, map};
 ghost use Rattle.std.specs.List.{AllByRecursion, list_all};
 ghost use Rattle.plan_types.specs.Errors.{no_memory, IsMemoryOr};
-ghost use Rattle.plan_types.specs.Schemas.{columns, names_of, repeats, type_at};
+ghost use Rattle.plan_types.specs.Schemas.{columns, names_of, repeats};
 ghost use Rattle.plan_dsl.specs.Expansion.{expansions, key_names};
 ghost use Rattle.plan_dsl.specs.Expressions.{plain_trees, trees_of};
-ghost use Rattle.plan_dsl.specs.PlanRules.{type_in_groups};
 ghost use Rattle.plan_dsl.specs.Registry.{registry};
 ghost use Rattle.plan_dsl.specs.Sources.{is_plain};
 ghost use Rattle.plan_dsl.specs.Typing.{Typed};
 ghost use Rattle.plan_arena.specs.Items.{named_node};
-ghost use Rattle.plan_infer.specs.KeptTypes.{AllKept, IsKept, IsRight, typed_of};
+ghost use Rattle.plan_infer.specs.KeptTypes.{AllKept, IsKept, IsRight};
 ghost use Rattle.plan_expand.specs.Refusals.{IsUnexpanded};
 ghost use Rattle.plan_lower.specs.Groups.{HasAggregates, HasExpandedGroups, HasGroups, IsAggregateRefusal, IsGroupRefusal, IsUngrouped, named_in_groups};
 ghost use Rattle.plan_lower.specs.Nodes.{KeepsExpressions};
 
+use crate::conversion::asked::Asked;
 use crate::conversion::coercion::coerce_all;
-use crate::conversion::projection::{Projection, expanded, project, project_in, room_for};
+use crate::conversion::projection::{Projection, expanded, project, project_in, put_new, room_for};
 use plan_arena::aexpr::AExpr;
 use plan_arena::arena::Arena;
-use plan_arena::expr_ir::{ExprIR, ExprIRs};
+use plan_arena::expr_ir::ExprIRs;
 use plan_dsl::expr::Exprs;
 use plan_dsl::udfs::Udfs;
 use plan_expand::expr_expansion::rewrite_projections;
-use plan_infer::field::{Context, dtype_in};
-use plan_infer::type_table::{Inferred, TypeTable};
+use plan_infer::field::Context;
+use plan_infer::type_table::TypeTable;
 use plan_types::error::{ErrorKind, PlanError};
 use plan_types::schema::Schema;
 use std::alloc::Global;
@@ -93,7 +93,8 @@ fn group_expanded(
     }
     let types = room_for(keys.items.len(), arena)?;
     let more_types = room_for(aggs.items.len(), arena)?;
-    let keys = project_in(keys, schema, arena, udfs, ErrorKind::Duplicate, types)?;
+    let asked = Asked::NewName(ErrorKind::Duplicate);
+    let keys = project_in(keys, schema, arena, udfs, asked, types)?;
     let aggs = aggregate_in(aggs, schema, arena, udfs, more_types, keys.schema)?;
     Ok(Groups {
         keys: keys.expr,
@@ -140,7 +141,8 @@ fn aggregate_coerced(
     ensures kept { KeepsExpressions arena.old arena.new }
     ensures err { IfErr result (IsAggregateRefusal (registry udfs.now) (columns schema.now) (names_of (columns keys)) (plain_trees aggs)) }
 {
-    let projection = project(aggs, schema, arena, udfs, ErrorKind::Duplicate, types)?;
+    let asked = Asked::NewName(ErrorKind::Duplicate);
+    let projection = project(aggs, schema, arena, udfs, asked, types)?;
     let whole = with_aggregates(keys, &projection.expr, types, arena.allocator())?;
     coerce_all(projection.expr.items.as_slice(), arena, schema, udfs, types)?;
     Ok(Projection {
@@ -163,26 +165,15 @@ fn with_aggregates(
 {
     let mut whole = keys;
     for expr in aggs.items.as_slice() {
-        put_aggregate(&mut whole, expr, types.get(expr.node()), alloc)?;
+        let own = types.get(expr.node());
+        put_new(
+            &mut whole,
+            expr,
+            own,
+            Context::Aggregation,
+            ErrorKind::Duplicate,
+            alloc,
+        )?;
     }
     Ok(whole)
-}
-
-// Puts an aggregate's column in groups behind the others.
-fn put_aggregate(
-    whole: &mut Schema,
-    expr: &ExprIR,
-    own: &Inferred,
-    alloc: Global,
-) -> Result<(), PlanError>
-    ensures ok { OnOk result (columns whole.new ≡ columns whole.old ++ ((named_node expr.now).label.name, type_in_groups (typed_of own.now)) ∷ []) }
-    ensures err { IfErr result (IsMemoryOr ErrorKind.Duplicate (is_some (type_at (columns whole.old) (named_node expr.now).label.name) ≡ true)) }
-{
-    let name = expr.output_name().try_clone(alloc)?;
-    let dtype = dtype_in(Context::Aggregation, own, alloc)?;
-    let before = whole.put(name, dtype)?;
-    if before {
-        return Err(PlanError::at_top(ErrorKind::Duplicate));
-    }
-    Ok(())
 }

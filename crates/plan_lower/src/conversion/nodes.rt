@@ -1,34 +1,32 @@
 //! Plan nodes over an input that is lowered.
-ghost use Rattle.std.specs.Prelude.{◌≡◌, ◌<◌, ◌++◌, [], ◌∷◌, map, OnOk, IfOk, IfErr};
+ghost use Rattle.std.specs.Prelude.{◌≡◌, ◌<◌, [], ◌∷◌, map, OnOk, IfOk, IfErr};
 ghost use Rattle.plan_types.specs.Errors.{no_memory};
 ghost use Rattle.plan_types.specs.Schemas.{columns};
-ghost use Rattle.plan_dsl.specs.Drops.{drop_leaves};
-ghost use Rattle.plan_dsl.specs.Expressions.{selector_trees, tree_of, trees_of};
-ghost use Rattle.plan_dsl.specs.Plans.{OrderOption, ProjectionOption};
+ghost use Rattle.plan_dsl.specs.Expressions.{tree_of, trees_of};
+ghost use Rattle.plan_dsl.specs.Plans.{FilterWork, GroupByWork, HStackWork, OrderOption, ProjectionOption, SelectWork};
 ghost use Rattle.plan_dsl.specs.PlanRules.{with_columns};
 ghost use Rattle.plan_dsl.specs.Registry.{registry};
 ghost use Rattle.plan_arena.specs.Items.{Grows, named_node};
 ghost use Rattle.plan_arena.specs.Options.{options_of};
-ghost use Rattle.plan_expand.specs.Refusals.{IsUnexpanded};
-ghost use Rattle.plan_lower.specs.Groups.{IsUngrouped};
-ghost use Rattle.plan_lower.specs.Lowering.{AreFilters, IsDropAt, IsEmptyTableAt, IsFilterAt, IsFunctionAt, IsFunctionRefusal, IsGroupByAt, IsHStackAt, IsSelectAt, Records, columns_at};
+ghost use Rattle.plan_lower.specs.Lowering.{AreFilters, IsEmptyTableAt, IsFilterAt, Records, columns_at};
 ghost use Rattle.plan_lower.specs.Nodes.{KeepsExpressions};
-ghost use Rattle.plan_lower.specs.Predicates.{IsUnfiltered};
-ghost use Rattle.plan_lower.specs.Projection.{IsUnprojected};
-ghost use Rattle.plan_lower.specs.Steps.{IsStepAt, IsStepRefusal, options_behind};
+ghost use Rattle.plan_lower.specs.Steps.{AddsStep, IsStepAt, IsStepRefusal, step_option};
+ghost use Rattle.plan_lower.specs.Works.{IsWorkAt, IsWorkRefusal};
 
-use crate::conversion::drops::columns_left;
+use crate::conversion::distincts::lower_distinct;
+use crate::conversion::functions::lower_function;
 use crate::conversion::groups::group_strictly;
+use crate::conversion::plain_nodes::lower_plain;
 use crate::conversion::predicate::lower_predicate;
 use crate::conversion::projection::project_strictly;
 use crate::conversion::put_copy::put_copy;
-use crate::conversion::step::Step;
+use crate::conversion::sorts::lower_sort;
+use crate::conversion::step::{LoweredNode, Step};
 use plan_arena::aexpr::AExpr;
 use plan_arena::arena::{Arena, Node};
 use plan_arena::expr_ir::ExprIR;
 use plan_arena::ir::IR;
 use plan_dsl::expr::{Expr, Exprs};
-use plan_dsl::function::{DropFunction, DslFunction};
 use plan_dsl::plan::ProjectionOptions;
 use plan_dsl::udfs::Udfs;
 use plan_properties::splitting::split_predicate;
@@ -36,15 +34,8 @@ use plan_types::error::{ErrorKind, PlanError};
 use plan_types::schema::Schema;
 use std::alloc::Global;
 
-/// A node, and the one that records the schema of its frame: itself, or one below.
-#[derive(Clone, Copy)]
-pub(crate) struct LoweredNode {
-    pub(crate) node: Node,
-    pub(crate) schema_node: Node,
-}
-
-// The schema that a node records.
-fn recorded_schema(lp_arena: &Arena<IR>, node: Node) -> &Schema
+/// The schema that a node records.
+pub(crate) fn recorded_schema(lp_arena: &Arena<IR>, node: Node) -> &Schema
     requires { Records lp_arena.now node.0 }
     ensures { columns result.now ≡ columns_at lp_arena.now node.0 }
 {
@@ -62,11 +53,9 @@ pub(crate) fn lower_step(
     requires { Records lp_arena.old input.schema_node.0 }
     ensures ok { IfOk result (λ lowered. IsStepAt (registry udfs.now) (columns_at lp_arena.old input.schema_node.0) expr_arena.new lp_arena.new
         lowered.node.0 input.node.0 step (columns_at lp_arena.new lowered.schema_node.0)) }
-    ensures recorded { IfOk result (λ lowered. Records lp_arena.new lowered.schema_node.0) }
     ensures err { IfErr result (IsStepRefusal (registry udfs.now) (columns_at lp_arena.old input.schema_node.0) step) }
     ensures kept { KeepsExpressions expr_arena.old expr_arena.new }
-    ensures grows { Grows lp_arena.old lp_arena.new }
-    ensures options { OnOk result (options_of lp_arena.new ≡ options_behind step (options_of lp_arena.old)) }
+    ensures adds { AddsStep lp_arena.old lp_arena.new (step_option step) result }
 {
     match step {
         Step::Filter(predicate) => lower_filter(input, predicate, expr_arena, lp_arena, udfs),
@@ -88,6 +77,9 @@ pub(crate) fn lower_step(
             )
         }
         Step::Function(function) => lower_function(input, function, lp_arena),
+        Step::Distinct(options) => lower_distinct(input, options, lp_arena),
+        Step::Sort(by, options) => lower_sort(input, by, options, expr_arena, lp_arena, udfs),
+        Step::Plain(plain) => lower_plain(input, plain, lp_arena),
     }
 }
 
@@ -103,11 +95,9 @@ fn lower_filter(
     ensures ok { IfOk result (λ lowered. IsFilterAt (registry udfs.now) (columns_at lp_arena.old input.schema_node.0) expr_arena.new lp_arena.new
         lowered.node.0 input.node.0 (tree_of predicate)) }
     ensures schema { IfOk result (λ lowered. columns_at lp_arena.new lowered.schema_node.0 ≡ columns_at lp_arena.old input.schema_node.0) }
-    ensures recorded { IfOk result (λ lowered. Records lp_arena.new lowered.schema_node.0) }
-    ensures err { IfErr result (IsUnfiltered (registry udfs.now) (columns_at lp_arena.old input.schema_node.0) (tree_of predicate)) }
+    ensures err { IfErr result (IsWorkRefusal (registry udfs.now) (columns_at lp_arena.old input.schema_node.0) FilterWork ((tree_of predicate ∷ []) ∷ [])) }
     ensures kept { KeepsExpressions expr_arena.old expr_arena.new }
-    ensures grows { Grows lp_arena.old lp_arena.new }
-    ensures options { OnOk result (options_of lp_arena.new ≡ options_of lp_arena.old) }
+    ensures adds { AddsStep lp_arena.old lp_arena.new [] result }
 {
     let schema = recorded_schema(lp_arena, input.schema_node);
     let predicate = lower_predicate(predicate, schema, expr_arena, udfs)?;
@@ -151,13 +141,11 @@ fn lower_select(
     udfs: &Udfs,
 ) -> Result<LoweredNode, PlanError>
     requires { Records lp_arena.old input.schema_node.0 }
-    ensures ok { IfOk result (λ lowered. IsSelectAt (registry udfs.now) (columns_at lp_arena.old input.schema_node.0) expr_arena.new lp_arena.new
-        lowered.node.0 input.node.0 (trees_of expr) (columns_at lp_arena.new lowered.schema_node.0)) }
-    ensures recorded { IfOk result (λ lowered. Records lp_arena.new lowered.schema_node.0) }
-    ensures err { IfErr result (IsUnprojected (registry udfs.now) (columns_at lp_arena.old input.schema_node.0) ErrorKind.Duplicate (trees_of expr)) }
+    ensures ok { IfOk result (λ lowered. IsWorkAt (registry udfs.now) (columns_at lp_arena.old input.schema_node.0) expr_arena.new lp_arena.new
+        lowered.node.0 input.node.0 SelectWork (trees_of expr ∷ []) (columns_at lp_arena.new lowered.schema_node.0)) }
+    ensures err { IfErr result (IsWorkRefusal (registry udfs.now) (columns_at lp_arena.old input.schema_node.0) SelectWork (trees_of expr ∷ [])) }
     ensures kept { KeepsExpressions expr_arena.old expr_arena.new }
-    ensures grows { Grows lp_arena.old lp_arena.new }
-    ensures options { OnOk result (options_of lp_arena.new ≡ options_of lp_arena.old ++ ProjectionOption options ∷ []) }
+    ensures adds { AddsStep lp_arena.old lp_arena.new (ProjectionOption options ∷ []) result }
 {
     let schema = recorded_schema(lp_arena, input.schema_node);
     let projection = project_strictly(expr, schema, expr_arena, udfs, ErrorKind::Duplicate)?;
@@ -184,13 +172,11 @@ fn lower_hstack(
     udfs: &Udfs,
 ) -> Result<LoweredNode, PlanError>
     requires { Records lp_arena.old input.schema_node.0 }
-    ensures ok { IfOk result (λ lowered. IsHStackAt (registry udfs.now) (columns_at lp_arena.old input.schema_node.0) expr_arena.new lp_arena.new
-        lowered.node.0 input.node.0 (trees_of exprs) (columns_at lp_arena.new lowered.schema_node.0)) }
-    ensures recorded { IfOk result (λ lowered. Records lp_arena.new lowered.schema_node.0) }
-    ensures err { IfErr result (IsUnprojected (registry udfs.now) (columns_at lp_arena.old input.schema_node.0) ErrorKind.ComputeError (trees_of exprs)) }
+    ensures ok { IfOk result (λ lowered. IsWorkAt (registry udfs.now) (columns_at lp_arena.old input.schema_node.0) expr_arena.new lp_arena.new
+        lowered.node.0 input.node.0 HStackWork (trees_of exprs ∷ []) (columns_at lp_arena.new lowered.schema_node.0)) }
+    ensures err { IfErr result (IsWorkRefusal (registry udfs.now) (columns_at lp_arena.old input.schema_node.0) HStackWork (trees_of exprs ∷ [])) }
     ensures kept { KeepsExpressions expr_arena.old expr_arena.new }
-    ensures grows { Grows lp_arena.old lp_arena.new }
-    ensures options { OnOk result (options_of lp_arena.new ≡ options_of lp_arena.old ++ ProjectionOption options ∷ []) }
+    ensures adds { AddsStep lp_arena.old lp_arena.new (ProjectionOption options ∷ []) result }
 {
     let before = recorded_schema(lp_arena, input.schema_node);
     let projection = project_strictly(exprs, before, expr_arena, udfs, ErrorKind::ComputeError)?;
@@ -218,13 +204,11 @@ fn lower_groups(
     udfs: &Udfs,
 ) -> Result<LoweredNode, PlanError>
     requires { Records lp_arena.old input.schema_node.0 }
-    ensures ok { IfOk result (λ lowered. IsGroupByAt (registry udfs.now) (columns_at lp_arena.old input.schema_node.0) expr_arena.new lp_arena.new
-        lowered.node.0 input.node.0 (trees_of keys) (trees_of aggs) (columns_at lp_arena.new lowered.schema_node.0)) }
-    ensures recorded { IfOk result (λ lowered. Records lp_arena.new lowered.schema_node.0) }
-    ensures err { IfErr result (IsUngrouped (registry udfs.now) (columns_at lp_arena.old input.schema_node.0) (trees_of keys) (trees_of aggs)) }
+    ensures ok { IfOk result (λ lowered. IsWorkAt (registry udfs.now) (columns_at lp_arena.old input.schema_node.0) expr_arena.new lp_arena.new
+        lowered.node.0 input.node.0 GroupByWork (trees_of keys ∷ trees_of aggs ∷ []) (columns_at lp_arena.new lowered.schema_node.0)) }
+    ensures err { IfErr result (IsWorkRefusal (registry udfs.now) (columns_at lp_arena.old input.schema_node.0) GroupByWork (trees_of keys ∷ trees_of aggs ∷ [])) }
     ensures kept { KeepsExpressions expr_arena.old expr_arena.new }
-    ensures grows { Grows lp_arena.old lp_arena.new }
-    ensures options { OnOk result (options_of lp_arena.new ≡ options_of lp_arena.old ++ OrderOption maintain_order ∷ []) }
+    ensures adds { AddsStep lp_arena.old lp_arena.new (OrderOption maintain_order ∷ []) result }
 {
     let schema = recorded_schema(lp_arena, input.schema_node);
     let groups = group_strictly(keys, aggs, schema, expr_arena, udfs)?;
@@ -234,52 +218,6 @@ fn lower_groups(
         aggs: groups.aggs,
         schema: groups.schema,
         maintain_order,
-    })?;
-    Ok(LoweredNode {
-        node,
-        schema_node: node,
-    })
-}
-
-// Adds a function over a lowered input.
-fn lower_function(
-    input: LoweredNode,
-    function: DslFunction,
-    lp_arena: &mut Arena<IR>,
-) -> Result<LoweredNode, PlanError>
-    requires { Records lp_arena.old input.schema_node.0 }
-    ensures ok { IfOk result (λ lowered. IsFunctionAt (columns_at lp_arena.old input.schema_node.0) function lp_arena.new
-        lowered.node.0 input.node.0 (columns_at lp_arena.new lowered.schema_node.0)) }
-    ensures recorded { IfOk result (λ lowered. Records lp_arena.new lowered.schema_node.0) }
-    ensures err { IfErr result (IsFunctionRefusal (columns_at lp_arena.old input.schema_node.0) function) }
-    ensures grows { Grows lp_arena.old lp_arena.new }
-    ensures options { OnOk result (options_of lp_arena.new ≡ options_of lp_arena.old) }
-{
-    match function {
-        DslFunction::Drop(function) => lower_drop(input, function, lp_arena),
-    }
-}
-
-// Adds a drop over a lowered input: a simple projection of what it leaves.
-fn lower_drop(
-    input: LoweredNode,
-    function: DropFunction,
-    lp_arena: &mut Arena<IR>,
-) -> Result<LoweredNode, PlanError>
-    requires { Records lp_arena.old input.schema_node.0 }
-    ensures ok { IfOk result (λ lowered. IsDropAt (columns_at lp_arena.old input.schema_node.0) (selector_trees function.to_drop) function.strict lp_arena.new
-        lowered.node.0 input.node.0 (columns_at lp_arena.new lowered.schema_node.0)) }
-    ensures recorded { IfOk result (λ lowered. Records lp_arena.new lowered.schema_node.0) }
-    ensures err { IfErr result (IsUnexpanded (drop_leaves (columns_at lp_arena.old input.schema_node.0) (selector_trees function.to_drop) function.strict)) }
-    ensures grows { Grows lp_arena.old lp_arena.new }
-    ensures options { OnOk result (options_of lp_arena.new ≡ options_of lp_arena.old) }
-{
-    let schema = recorded_schema(lp_arena, input.schema_node);
-    let columns = columns_left(lp_arena.allocator(), function, schema)?;
-    let under = input_of(columns.len(), input.node, lp_arena)?;
-    let node = lp_arena.add(IR::SimpleProjection {
-        input: under,
-        columns,
     })?;
     Ok(LoweredNode {
         node,
@@ -301,8 +239,12 @@ fn schema_with(schema: &Schema, others: &Schema, alloc: Global) -> Result<Schema
     Ok(whole)
 }
 
-// The input of a node of so many columns: the empty table where there are none.
-fn input_of(width: usize, input: Node, lp_arena: &mut Arena<IR>) -> Result<Node, PlanError>
+/// The input of a node of so many columns: the empty table where there are none.
+pub(crate) fn input_of(
+    width: usize,
+    input: Node,
+    lp_arena: &mut Arena<IR>,
+) -> Result<Node, PlanError>
     ensures nothing { IfOk result (λ node. width ≡ 0 → IsEmptyTableAt lp_arena.new node.0) }
     ensures something { IfOk result (λ node. 0 < width → node.0 ≡ input.0) }
     ensures grows { Grows lp_arena.old lp_arena.new }

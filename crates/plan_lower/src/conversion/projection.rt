@@ -1,26 +1,33 @@
 //! The expressions of one node, lowered together.
-ghost use Rattle.std.specs.Prelude.{◌≡◌, ◌≢◌, ℕ, [], false, true, Ok, OnOk, IfOk, IfErr, IfSome, length, map};
+ghost use Rattle.std.specs.Prelude.{◌≡◌, ◌≢◌, ◌++◌, ℕ, [], ◌∷◌, false, true, Ok, OnOk, IfOk, IfErr, IfSome, is_some, length, map, not};
 ghost use Rattle.std.specs.List.{AllByRecursion, list_all};
 ghost use Rattle.std.specs.Option.{option_map_or};
-ghost use Rattle.plan_types.specs.Errors.{no_memory, IsRefusal};
-ghost use Rattle.plan_types.specs.Schemas.{columns};
+ghost use Rattle.plan_types.specs.Errors.{at_top, no_memory, IsMemoryOr, IsRefusal};
+ghost use Rattle.plan_types.specs.Schemas.{columns, type_at};
+ghost use Rattle.plan_types.specs.Types.{ty};
 ghost use Rattle.plan_dsl.specs.Aliases.{core, pruned, spelled};
 ghost use Rattle.plan_dsl.specs.Expansion.{expansions};
 ghost use Rattle.plan_dsl.specs.Expressions.{plain_tree, plain_trees, tree_of, trees_of};
 ghost use Rattle.plan_dsl.specs.Literals.{settled};
 ghost use Rattle.plan_dsl.specs.Names.{label_of};
 ghost use Rattle.plan_dsl.specs.Ops.{Expression};
+ghost use Rattle.plan_dsl.specs.PlanRules.{kind_where};
 ghost use Rattle.plan_dsl.specs.Registry.{registry};
+ghost use Rattle.plan_dsl.specs.Signatures.{is_asked};
 ghost use Rattle.plan_dsl.specs.Sources.{is_plain};
 ghost use Rattle.plan_dsl.specs.Typing.{Typed, typing};
+ghost use Rattle.plan_dsl.specs.declared.signature.Ask.TheVariants.{Sortable};
 ghost use Rattle.plan_arena.specs.Denotation.{Denotes};
 ghost use Rattle.plan_arena.specs.Items.{named_node, output_label, Grows, HoldsExpression, HoldsFrom};
-ghost use Rattle.plan_infer.specs.KeptTypes.{Extends, HasRightTypes, IsKept, IsRight};
+ghost use Rattle.plan_infer.specs.Fields.{type_in};
+ghost use Rattle.plan_infer.specs.KeptTypes.{Extends, HasRightTypes, IsKept, IsRight, typed_of};
 ghost use Rattle.plan_expand.specs.Refusals.{IsUnexpanded};
+ghost use Rattle.plan_lower.specs.Asked.{IsMemoryOrOne, asked_columns, asked_kinds};
 ghost use Rattle.plan_lower.specs.Nodes.{KeepsExpressions};
 ghost use Rattle.plan_lower.specs.Outputs.{HasExpandedOutputs, HasOutputs};
 ghost use Rattle.plan_lower.specs.Projection.{Projects, AddsOutput, IsOutputRefusal, IsProjectionRefusal, IsUnprojected};
 
+use crate::conversion::asked::Asked;
 use crate::conversion::coercion::coerce_all;
 use crate::conversion::expr_to_ir::{Pruning, add_nodes, alias_name, settle};
 use crate::conversion::horizontals::writes_no_chain;
@@ -30,7 +37,9 @@ use plan_arena::expr_ir::{ExprIR, ExprIRs, OutputName};
 use plan_dsl::expr::{Expr, Exprs};
 use plan_dsl::udfs::Udfs;
 use plan_expand::expr_expansion::rewrite_projections;
-use plan_infer::type_table::TypeTable;
+use plan_infer::field::{Context, dtype_in};
+use plan_infer::type_table::{Inferred, TypeTable};
+use plan_types::dtype::DataType;
 use plan_types::error::{ErrorKind, PlanError};
 use plan_types::schema::Schema;
 use std::alloc::Global;
@@ -38,7 +47,7 @@ use std::alloc::Global;
 // So many nodes has an operator over two columns that are both cast.
 const USUAL_NODES: usize = 5;
 
-/// Lowered expressions, and the schema of their columns.
+/// Lowered expressions, and the schema of their columns where their names were asked for.
 #[derive(Drop)]
 pub(crate) struct Projection {
     pub(crate) expr: ExprIRs,
@@ -54,14 +63,32 @@ pub(crate) fn project_strictly(
     udfs: &Udfs,
     twice: ErrorKind,
 ) -> Result<Projection, PlanError>
-    ensures ok { IfOk result (λ projection. HasExpandedOutputs (registry udfs.now) (columns schema.now) arena.new
+    ensures ok { IfOk result (λ projection. HasExpandedOutputs (registry udfs.now) (columns schema.now) twice arena.new
         (trees_of exprs) (map named_node projection.expr.items.items) (columns projection.schema)) }
     ensures kept { KeepsExpressions arena.old arena.new }
     ensures err { IfErr result (IsUnprojected (registry udfs.now) (columns schema.now) twice (trees_of exprs)) }
 {
     let exprs = expanded(exprs, schema, udfs, arena.allocator())?;
+    let projection = project_asked(exprs, schema, arena, udfs, Asked::NewName(twice))?;
+    Ok(projection)
+}
+
+/// Adds plain expressions' nodes, types them, asks of each what is asked, and puts casts round operands.
+pub(crate) fn project_asked(
+    exprs: Exprs,
+    schema: &Schema,
+    arena: &mut Arena<AExpr>,
+    udfs: &Udfs,
+    asked: Asked,
+) -> Result<Projection, PlanError>
+    requires plain { list_all is_plain (trees_of exprs) ≡ true }
+    ensures ok { IfOk result (λ projection. HasOutputs (registry udfs.now) (columns schema.now) asked arena.new
+        (plain_trees exprs) (map named_node projection.expr.items.items) (columns projection.schema)) }
+    ensures kept { KeepsExpressions arena.old arena.new }
+    ensures err { IfErr result (IsProjectionRefusal (registry udfs.now) (columns schema.now) asked (plain_trees exprs)) }
+{
     let types = room_for(exprs.items.len(), arena)?;
-    let projection = project_in(exprs, schema, arena, udfs, twice, types)?;
+    let projection = project_in(exprs, schema, arena, udfs, asked, types)?;
     Ok(projection)
 }
 
@@ -92,43 +119,44 @@ pub(crate) fn room_for(count: usize, arena: &mut Arena<AExpr>) -> Result<TypeTab
     Ok(types)
 }
 
-/// Adds plain expressions' nodes, types them and puts casts round operands, with a table that keeps nothing yet.
+/// Adds plain expressions' nodes, asks of each what is asked, and puts casts round operands, with a table that keeps nothing
+/// yet.
 pub(crate) fn project_in(
     exprs: Exprs,
     schema: &Schema,
     arena: &mut Arena<AExpr>,
     udfs: &Udfs,
-    twice: ErrorKind,
+    asked: Asked,
     types: TypeTable,
 ) -> Result<Projection, PlanError>
     requires plain { list_all is_plain (trees_of exprs) ≡ true }
     requires empty { (n : ℕ) → ¬ (IsKept types n) }
-    ensures ok { IfOk result (λ projection. HasOutputs (registry udfs.now) (columns schema.now) arena.new
+    ensures ok { IfOk result (λ projection. HasOutputs (registry udfs.now) (columns schema.now) asked arena.new
         (plain_trees exprs) (map named_node projection.expr.items.items) (columns projection.schema)) }
     ensures kept { KeepsExpressions arena.old arena.new }
-    ensures err { IfErr result (IsProjectionRefusal (registry udfs.now) (columns schema.now) twice (plain_trees exprs)) }
+    ensures err { IfErr result (IsProjectionRefusal (registry udfs.now) (columns schema.now) asked (plain_trees exprs)) }
 {
     let mut types = types;
-    project_coerced(exprs, schema, arena, udfs, twice, &mut types)
+    project_coerced(exprs, schema, arena, udfs, asked, &mut types)
 }
 
-// Adds plain expressions' nodes, types them and puts casts round operands, with a table that is right.
+// Adds plain expressions' nodes, asks of each what is asked, and puts casts round operands, with a table that is right.
 fn project_coerced(
     exprs: Exprs,
     schema: &Schema,
     arena: &mut Arena<AExpr>,
     udfs: &Udfs,
-    twice: ErrorKind,
+    asked: Asked,
     types: &mut TypeTable,
 ) -> Result<Projection, PlanError>
     requires plain { list_all is_plain (trees_of exprs) ≡ true }
     requires right { IsRight (registry udfs.now) (columns schema.now) arena.old types.old }
-    ensures ok { IfOk result (λ projection. HasOutputs (registry udfs.now) (columns schema.now) arena.new
+    ensures ok { IfOk result (λ projection. HasOutputs (registry udfs.now) (columns schema.now) asked arena.new
         (plain_trees exprs) (map named_node projection.expr.items.items) (columns projection.schema)) }
     ensures kept { KeepsExpressions arena.old arena.new }
-    ensures err { IfErr result (IsProjectionRefusal (registry udfs.now) (columns schema.now) twice (plain_trees exprs)) }
+    ensures err { IfErr result (IsProjectionRefusal (registry udfs.now) (columns schema.now) asked (plain_trees exprs)) }
 {
-    let projection = project(exprs, schema, arena, udfs, twice, types)?;
+    let projection = project(exprs, schema, arena, udfs, asked, types)?;
     match coerce_all(projection.expr.items.as_slice(), arena, schema, udfs, types) {
         Ok(()) => Ok(projection),
         Err(error) => {
@@ -138,30 +166,31 @@ fn project_coerced(
     }
 }
 
-/// Adds the expressions' nodes, and types them over a frame of the schema. No casts are put in yet.
+/// Adds the expressions' nodes, types them over a frame of the schema, and asks of each what is asked. No casts are put in
+/// yet.
 pub(crate) fn project(
     exprs: Exprs,
     schema: &Schema,
     arena: &mut Arena<AExpr>,
     udfs: &Udfs,
-    twice: ErrorKind,
+    asked: Asked,
     types: &mut TypeTable,
 ) -> Result<Projection, PlanError>
     requires plain { list_all is_plain (trees_of exprs) ≡ true }
     requires right { IsRight (registry udfs.now) (columns schema.now) arena.old types.old }
-    ensures ok { IfOk result (λ projection. Projects (registry udfs.now) (columns schema.now) (length arena.old) arena.new
+    ensures ok { IfOk result (λ projection. Projects (registry udfs.now) (columns schema.now) asked (length arena.old) arena.new
         (plain_trees exprs) (map named_node projection.expr.items.items) (columns projection.schema)) }
     ensures grows { Grows arena.old arena.new }
     ensures kept { IfOk result (λ projection. AllByRecursion (IsKept types.new)
         (map (λ e. (named_node e).expression) projection.expr.items.items)) }
     ensures right { OnOk result (IsRight (registry udfs.now) (columns schema.now) arena.new types.new) }
-    ensures err { IfErr result (IsProjectionRefusal (registry udfs.now) (columns schema.now) twice (plain_trees exprs)) }
+    ensures err { IfErr result (IsProjectionRefusal (registry udfs.now) (columns schema.now) asked (plain_trees exprs)) }
 {
     let alloc = arena.allocator();
     let mut items = Vec::with_capacity(alloc, exprs.items.len())?;
     let mut output = Schema::with_capacity(alloc, exprs.items.len())?;
     for expr in exprs.items {
-        let expr_ir = project_one(expr, schema, arena, udfs, twice, types, &mut output)?;
+        let expr_ir = project_one(expr, schema, arena, udfs, asked, types, &mut output)?;
         items.push(expr_ir)?;
     }
     Ok(Projection {
@@ -170,37 +199,94 @@ pub(crate) fn project(
     })
 }
 
-// Adds one expression's nodes, and its column to the output.
+// Adds one expression's nodes, asks of it what is asked, and adds its column to the output where its name is asked for.
 fn project_one(
     expr: Expr,
     schema: &Schema,
     arena: &mut Arena<AExpr>,
     udfs: &Udfs,
-    twice: ErrorKind,
+    asked: Asked,
     types: &mut TypeTable,
     output: &mut Schema,
 ) -> Result<ExprIR, PlanError>
     requires plain { is_plain (tree_of expr) ≡ true }
     requires right { IsRight (registry udfs.now) (columns schema.now) arena.old types.old }
-    ensures ok { IfOk result (λ expr_ir. AddsOutput (registry udfs.now) (columns schema.now) (length arena.old) arena.new
+    ensures ok { IfOk result (λ expr_ir. AddsOutput (registry udfs.now) (columns schema.now) asked (length arena.old) arena.new
         (plain_tree expr) (named_node expr_ir) (columns output.old) (columns output.new)) }
     ensures grows { Grows arena.old arena.new }
     ensures kept { IfOk result (λ expr_ir. IsKept types.new (named_node expr_ir).expression) }
     ensures right { OnOk result (IsRight (registry udfs.now) (columns schema.now) arena.new types.new) }
     ensures extends { OnOk result (Extends types.old types.new) }
-    ensures err { IfErr result (IsOutputRefusal (registry udfs.now) (columns schema.now) twice (plain_tree expr) (columns output.old)) }
+    ensures err { IfErr result (IsOutputRefusal (registry udfs.now) (columns schema.now) asked (plain_tree expr) (columns output.old)) }
 {
     let expr_ir = add_typed(expr, schema, arena, udfs, types)?;
-    let name = expr_ir.output_name().try_clone(arena.allocator())?;
-    let dtype = types
-        .get(expr_ir.node())
-        .dtype
-        .try_clone(arena.allocator())?;
+    ask(
+        asked,
+        &expr_ir,
+        types.get(expr_ir.node()),
+        output,
+        arena.allocator(),
+    )?;
+    Ok(expr_ir)
+}
+
+// Asks of a typed expression what is asked, and puts its column behind the others where its name is asked for.
+fn ask(
+    asked: Asked,
+    expr: &ExprIR,
+    own: &Inferred,
+    output: &mut Schema,
+    alloc: Global,
+) -> Result<(), PlanError>
+    ensures met { OnOk result (asked_kinds asked (columns output.old) (named_node expr.now).label.name (typed_of own.now) ≡ []) }
+    ensures put { OnOk result (columns output.new ≡ columns output.old ++ asked_columns asked (((named_node expr.now).label.name, (typed_of own.now).type) ∷ [])) }
+    ensures err { IfErr result (IsMemoryOrOne (asked_kinds asked (columns output.old) (named_node expr.now).label.name (typed_of own.now))) }
+{
+    match asked {
+        Asked::NewName(twice) => put_new(output, expr, own, Context::Default, twice, alloc),
+        Asked::TruthValue => refused_where(own.dtype != DataType::Boolean),
+        Asked::Order => refused_where(!is_ordered(&own.dtype)),
+    }
+}
+
+/// Puts an expression's column in a context behind the others. A name that stands there breaks that kind of rule.
+pub(crate) fn put_new(
+    output: &mut Schema,
+    expr: &ExprIR,
+    own: &Inferred,
+    context: Context,
+    twice: ErrorKind,
+    alloc: Global,
+) -> Result<(), PlanError>
+    ensures ok { OnOk result (columns output.new ≡ columns output.old ++ ((named_node expr.now).label.name, type_in context (typed_of own.now)) ∷ []) }
+    ensures new { OnOk result (is_some (type_at (columns output.old) (named_node expr.now).label.name) ≡ false) }
+    ensures err { IfErr result (IsMemoryOr twice (is_some (type_at (columns output.old) (named_node expr.now).label.name) ≡ true)) }
+{
+    let name = expr.output_name().try_clone(alloc)?;
+    let dtype = dtype_in(context, own, alloc)?;
     let before = output.put(name, dtype)?;
     if before {
         return Err(PlanError::at_top(twice));
     }
-    Ok(expr_ir)
+    Ok(())
+}
+
+// A type of another kind than is asked for is refused.
+fn refused_where(other: bool) -> Result<(), PlanError>
+    ensures ok { OnOk result (kind_where other ErrorKind.InvalidOperation ≡ []) }
+    ensures err { IfErr result (λ error. (error ≡ at_top ErrorKind.InvalidOperation) × (kind_where other ErrorKind.InvalidOperation ≡ ErrorKind.InvalidOperation ∷ [])) }
+{
+    if other {
+        return Err(PlanError::at_top(ErrorKind::InvalidOperation));
+    }
+    Ok(())
+}
+
+// Whether values of the type have an order.
+fn is_ordered(dtype: &DataType) -> bool
+    ensures { result ≡ is_asked Sortable (ty dtype.now) }
+{
+    matches!(dtype, DataType::Null) || dtype.is_ord()
 }
 
 /// Adds an expression's nodes without its aliases and with its horizontals written out, and types them over a frame of the

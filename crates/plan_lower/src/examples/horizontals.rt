@@ -23,8 +23,8 @@ ghost use Rattle.plan_arena.specs.Samples.{node_at};
 ghost use Rattle.plan_infer.specs.Samples.{int8, one_column, a, b, c, a_items};
 ghost use Rattle.plan_lower.specs.ExpressionFields.{IsFieldRefusal};
 ghost use Rattle.plan_lower.specs.Horizontals.{InChain, IsNamedAlone, IsNamedAs, IsNamedUnder, IsWrittenBy, is_chain, writes_no_chain};
-ghost use Rattle.plan_lower.specs.Predicates.{IsPredicateRefusal};
 ghost use Rattle.plan_lower.specs.Projection.{IsOutputRefusal};
+ghost use Rattle.plan_lower.specs.declared.conversion.asked.Asked.TheVariants.{NewName, TruthValue};
 ghost use Rattle.plan_lower.specs.Samples.{keep, truths};
 
 /// What horizontals are written out by, where they are.
@@ -83,16 +83,16 @@ pub fn names_without_aliases()
 /// A horizontal is refused as its operands are, wherever the one stands that is, and else for one of another type than
 /// that of truth values. An operand alone is cast.
 pub fn refusals_of_horizontals()
-    ensures unknown_first { IsOutputRefusal [] (one_column int8 ++ truths) Duplicate (call AllHorizontal (c ∷ a ∷ keep ∷ [])) [] (at_top ColumnNotFound) }
-    ensures unknown_between { IsOutputRefusal [] (one_column int8 ++ truths) Duplicate (call AnyHorizontal (a ∷ c ∷ keep ∷ [])) [] (at_top ColumnNotFound) }
-    ensures unknown_last { IsOutputRefusal [] (one_column int8 ++ truths) Duplicate (call AllHorizontal (a ∷ keep ∷ c ∷ [])) [] (at_top ColumnNotFound) }
-    ensures not_as_a_chain { ¬ (IsOutputRefusal [] (one_column int8 ++ truths) Duplicate (call AllHorizontal (a ∷ keep ∷ c ∷ [])) [] (at_top InvalidOperation)) }
-    ensures number_first { IsOutputRefusal [] (one_column int8 ++ truths) Duplicate (call AllHorizontal (a ∷ keep ∷ [])) [] (at_top InvalidOperation) }
-    ensures number_between { IsOutputRefusal [] (one_column int8 ++ truths) Duplicate (call AllHorizontal (keep ∷ a ∷ keep ∷ [])) [] (at_top InvalidOperation) }
-    ensures number_last { IsOutputRefusal [] (one_column int8 ++ truths) Duplicate (call AnyHorizontal (keep ∷ a ∷ [])) [] (at_top InvalidOperation) }
-    ensures number_alone { ¬ (IsOutputRefusal [] (one_column int8 ++ truths) Duplicate (call AllHorizontal (a ∷ [])) [] (at_top InvalidOperation)) }
-    ensures predicate { IsPredicateRefusal [] (one_column int8 ++ truths) (call AllHorizontal (a ∷ keep ∷ c ∷ [])) (at_top ColumnNotFound) }
-    ensures no_predicate { ¬ (IsPredicateRefusal [] (one_column int8 ++ truths) (call AllHorizontal (a ∷ keep ∷ c ∷ [])) (at_top InvalidOperation)) }
+    ensures unknown_first { IsOutputRefusal [] (one_column int8 ++ truths) (NewName Duplicate) (call AllHorizontal (c ∷ a ∷ keep ∷ [])) [] (at_top ColumnNotFound) }
+    ensures unknown_between { IsOutputRefusal [] (one_column int8 ++ truths) (NewName Duplicate) (call AnyHorizontal (a ∷ c ∷ keep ∷ [])) [] (at_top ColumnNotFound) }
+    ensures unknown_last { IsOutputRefusal [] (one_column int8 ++ truths) (NewName Duplicate) (call AllHorizontal (a ∷ keep ∷ c ∷ [])) [] (at_top ColumnNotFound) }
+    ensures not_as_a_chain { ¬ (IsOutputRefusal [] (one_column int8 ++ truths) (NewName Duplicate) (call AllHorizontal (a ∷ keep ∷ c ∷ [])) [] (at_top InvalidOperation)) }
+    ensures number_first { IsOutputRefusal [] (one_column int8 ++ truths) (NewName Duplicate) (call AllHorizontal (a ∷ keep ∷ [])) [] (at_top InvalidOperation) }
+    ensures number_between { IsOutputRefusal [] (one_column int8 ++ truths) (NewName Duplicate) (call AllHorizontal (keep ∷ a ∷ keep ∷ [])) [] (at_top InvalidOperation) }
+    ensures number_last { IsOutputRefusal [] (one_column int8 ++ truths) (NewName Duplicate) (call AnyHorizontal (keep ∷ a ∷ [])) [] (at_top InvalidOperation) }
+    ensures number_alone { ¬ (IsOutputRefusal [] (one_column int8 ++ truths) (NewName Duplicate) (call AllHorizontal (a ∷ [])) [] (at_top InvalidOperation)) }
+    ensures predicate { IsOutputRefusal [] (one_column int8 ++ truths) TruthValue (call AllHorizontal (a ∷ keep ∷ c ∷ [])) [] (at_top ColumnNotFound) }
+    ensures no_predicate { ¬ (IsOutputRefusal [] (one_column int8 ++ truths) TruthValue (call AllHorizontal (a ∷ keep ∷ c ∷ [])) [] (at_top InvalidOperation)) }
 {}
 
 /// A horizontal has a field as its node does.

@@ -1,7 +1,7 @@
 //! Outputs of selects, and predicates, with what lowering makes of them.
 
-ghost use Rattle.std.specs.Prelude.{◌≡◌, [], ◌∷◌, pos, codes, Some};
-ghost use Rattle.plan_types.specs.Types.{Truth};
+ghost use Rattle.std.specs.Prelude.{◌≡◌, [], ◌∷◌, pos, codes};
+ghost use Rattle.plan_types.specs.Types.{ListType, Truth};
 ghost use Rattle.plan_types.specs.Errors.{no_memory, at_top};
 ghost use Rattle.plan_types.specs.declared.dtype.CastOptions.TheVariants.{NonStrict};
 ghost use Rattle.plan_types.specs.declared.dtype.DataType.TheVariants.{Int16 as HalfWide, Int32 as Wide};
@@ -11,16 +11,17 @@ ghost use Rattle.plan_dsl.specs.Names.{column_label};
 ghost use Rattle.plan_dsl.specs.Samples.{all, nth};
 ghost use Rattle.plan_dsl.specs.Ops.{CastOp};
 ghost use Rattle.plan_dsl.specs.Trees.{node, no_more, more};
-ghost use Rattle.plan_dsl.specs.Plans.{empty_table, named, select_op, hstack_op};
 ghost use Rattle.plan_arena.specs.declared.aexpr.AExpr.TheVariants.{Cast, Column, Literal};
 ghost use Rattle.plan_arena.specs.Samples.{node_at};
+ghost use Rattle.plan_lower.specs.Asked.{IsMemoryOrOne, asked_columns, asked_kinds};
 ghost use Rattle.plan_lower.specs.Nodes.{IsItemOf};
-ghost use Rattle.plan_lower.specs.Outputs.{IsLowered, SelectsTo, HasOutputs, HasExpandedOutputs, lowered_named, lowered_column, over, lowered_select, lowered_hstack};
-ghost use Rattle.plan_lower.specs.Predicates.{FiltersBy, HasPredicate, IsPredicateRefusal, HasExpandedPredicate, IsUnfiltered, lowered_filter};
+ghost use Rattle.plan_lower.specs.Outputs.{IsLowered, HasOutputs, HasExpandedOutputs, lowered_named, lowered_column};
+ghost use Rattle.plan_lower.specs.Predicates.{FiltersBy, HasPredicate, HasExpandedPredicate, IsUnfiltered, lowered_filter};
 ghost use Rattle.plan_lower.specs.Projection.{IsOutput, Projects, AddsOutput, IsOutputRefusal, RefusesOne, IsProjectionRefusal, IsUnprojected, output_node, output_column};
+ghost use Rattle.plan_lower.specs.declared.conversion.asked.Asked.TheVariants.{NewName, Order, TruthValue};
 ghost use Rattle.plan_infer.specs.Samples.{int8, int16, int32, one_column, columns_of, two_columns, of_type, of_one, a, b, c, five, sum, columns_and, a_items};
 ghost use Rattle.plan_coerce.specs.Samples.{strict_sum, wide};
-ghost use Rattle.plan_lower.specs.Samples.{truths, keep, keep_items, node_named, output, lowered_to, as_it_is, scan_of, select_over, filter_over};
+ghost use Rattle.plan_lower.specs.Samples.{truths, keep, keep_items, node_named, output, lowered_to, as_it_is, scan_of, filter_over};
 
 /// An item does what an expression's top does, over nodes from a number on that denote its operands.
 pub fn items_of_expressions()
@@ -44,30 +45,30 @@ pub fn outputs_of_expressions()
 
 /// Expressions that are projected: their nodes and columns in order, under distinct names.
 pub fn projections()
-    ensures columns { Projects [] two_columns 0 (columns_and []) (b ∷ a ∷ [])
+    ensures columns { Projects [] two_columns (NewName Duplicate) 0 (columns_and []) (b ∷ a ∷ [])
         (node_named (codes "b") 1 ∷ node_named (codes "a") 0 ∷ []) ((codes "b", int32) ∷ (codes "a", int8) ∷ []) }
-    ensures none { Projects [] two_columns 0 [] [] [] [] }
-    ensures one_too_few { ¬ (Projects [] (one_column int8) 0 a_items (a ∷ []) [] []) }
-    ensures repeated { ¬ (Projects [] (one_column int8) 0 a_items (a ∷ a ∷ [])
+    ensures none { Projects [] two_columns (NewName Duplicate) 0 [] [] [] [] }
+    ensures one_too_few { ¬ (Projects [] (one_column int8) (NewName Duplicate) 0 a_items (a ∷ []) [] []) }
+    ensures repeated { ¬ (Projects [] (one_column int8) (NewName Duplicate) 0 a_items (a ∷ a ∷ [])
         (node_named (codes "a") 0 ∷ node_named (codes "a") 0 ∷ []) ((codes "a", int8) ∷ (codes "a", int8) ∷ [])) }
-    ensures one_more { AddsOutput [] two_columns 0 (columns_and []) b (node_named (codes "b") 1) (one_column int8) two_columns }
-    ensures one_more_of_the_name { ¬ (AddsOutput [] (one_column int8) 0 a_items a (node_named (codes "a") 0) (one_column int8) ((codes "a", int8) ∷ (codes "a", int8) ∷ [])) }
+    ensures one_more { AddsOutput [] two_columns (NewName Duplicate) 0 (columns_and []) b (node_named (codes "b") 1) (one_column int8) two_columns }
+    ensures one_more_of_the_name { ¬ (AddsOutput [] (one_column int8) (NewName Duplicate) 0 a_items a (node_named (codes "a") 0) (one_column int8) ((codes "a", int8) ∷ (codes "a", int8) ∷ [])) }
 {}
 
 /// Why expressions can't be projected: one has no type, or its name stands before it, which is told as the kind that is asked for.
 pub fn refusals_of_projections()
-    ensures memory { IsOutputRefusal [] [] Duplicate a [] no_memory }
-    ensures no_such_column { IsOutputRefusal [] [] Duplicate a [] (at_top ColumnNotFound) }
-    ensures name_before_it { IsOutputRefusal [] (one_column int8) Duplicate a (one_column int16) (at_top Duplicate) }
-    ensures name_told_as_another_kind { IsOutputRefusal [] (one_column int8) ComputeError a (one_column int16) (at_top ComputeError) }
-    ensures kind_that_is_not_asked_for { ¬ (IsOutputRefusal [] (one_column int8) ComputeError a (one_column int16) (at_top Duplicate)) }
-    ensures new_name { ¬ (IsOutputRefusal [] (one_column int8) Duplicate a ((codes "b", int16) ∷ []) (at_top Duplicate)) }
-    ensures typed { ¬ (IsOutputRefusal [] (one_column int8) Duplicate a [] (at_top ColumnNotFound)) }
-    ensures second { RefusesOne [] (one_column int8) Duplicate (a ∷ a ∷ []) (at_top Duplicate) }
-    ensures first { IsProjectionRefusal [] [] Duplicate (c ∷ []) (at_top ColumnNotFound) }
-    ensures projection_without_memory { IsProjectionRefusal [] [] Duplicate [] no_memory }
-    ensures of_nothing { ¬ (RefusesOne [] [] Duplicate [] (at_top Duplicate)) }
-    ensures projection_of_nothing { ¬ (IsProjectionRefusal [] [] Duplicate [] (at_top Duplicate)) }
+    ensures memory { IsOutputRefusal [] [] (NewName Duplicate) a [] no_memory }
+    ensures no_such_column { IsOutputRefusal [] [] (NewName Duplicate) a [] (at_top ColumnNotFound) }
+    ensures name_before_it { IsOutputRefusal [] (one_column int8) (NewName Duplicate) a (one_column int16) (at_top Duplicate) }
+    ensures name_told_as_another_kind { IsOutputRefusal [] (one_column int8) (NewName ComputeError) a (one_column int16) (at_top ComputeError) }
+    ensures kind_that_is_not_asked_for { ¬ (IsOutputRefusal [] (one_column int8) (NewName ComputeError) a (one_column int16) (at_top Duplicate)) }
+    ensures new_name { ¬ (IsOutputRefusal [] (one_column int8) (NewName Duplicate) a ((codes "b", int16) ∷ []) (at_top Duplicate)) }
+    ensures typed { ¬ (IsOutputRefusal [] (one_column int8) (NewName Duplicate) a [] (at_top ColumnNotFound)) }
+    ensures second { RefusesOne [] (one_column int8) (NewName Duplicate) (a ∷ a ∷ []) (at_top Duplicate) }
+    ensures first { IsProjectionRefusal [] [] (NewName Duplicate) (c ∷ []) (at_top ColumnNotFound) }
+    ensures projection_without_memory { IsProjectionRefusal [] [] (NewName Duplicate) [] no_memory }
+    ensures of_nothing { ¬ (RefusesOne [] [] (NewName Duplicate) [] (at_top Duplicate)) }
+    ensures projection_of_nothing { ¬ (IsProjectionRefusal [] [] (NewName Duplicate) [] (at_top Duplicate)) }
 {}
 
 /// What stands for an expression says the same and is strict, with casts only where they change the type.
@@ -80,32 +81,35 @@ pub fn lowered_expressions()
     ensures column { lowered_column (as_it_is a int8) ≡ (codes "a", int8) }
 {}
 
-/// Outputs of a select, which stand for its expressions under distinct names.
+/// Nodes that stand for expressions, under distinct names, or of the type that is asked for.
 pub fn lowered_selects()
-    ensures select { SelectsTo [] (one_column int8) (a ∷ []) (as_it_is a int8 ∷ []) }
-    ensures other_tree { ¬ (SelectsTo [] (one_column int8) (b ∷ []) (as_it_is a int8 ∷ [])) }
-    ensures repeated { ¬ (SelectsTo [] (one_column int8) (a ∷ a ∷ []) (as_it_is a int8 ∷ as_it_is a int8 ∷ [])) }
-    ensures nodes { HasOutputs [] (one_column int8) a_items (a ∷ []) (node_named (codes "a") 0 ∷ []) (one_column int8) }
-    ensures no_nodes { ¬ (HasOutputs [] (one_column int8) a_items (a ∷ []) [] (one_column int8)) }
-    ensures over_an_input { lowered_select (as_it_is a int8 ∷ []) (scan_of (one_column int8)) ≡ select_over (scan_of (one_column int8)) a (one_column int8) }
-    ensures of_nothing { lowered_select [] (scan_of (one_column int8)) ≡ node (select_op [] (Some [])) (more empty_table no_more) }
-    ensures over_nothing { over [] (scan_of (one_column int8)) ≡ empty_table }
+    ensures nodes { HasOutputs [] (one_column int8) (NewName Duplicate) a_items (a ∷ []) (node_named (codes "a") 0 ∷ []) (one_column int8) }
+    ensures no_nodes { ¬ (HasOutputs [] (one_column int8) (NewName Duplicate) a_items (a ∷ []) [] (one_column int8)) }
+    ensures in_an_order { HasOutputs [] (one_column int8) Order a_items (a ∷ []) (node_named (codes "a") 0 ∷ []) [] }
+    ensures no_truth { ¬ (HasOutputs [] (one_column int8) TruthValue a_items (a ∷ []) (node_named (codes "a") 0 ∷ []) []) }
+{}
+
+/// What an expression breaks, where its name or its type is asked for, and the columns that are made.
+pub fn kinds_that_are_asked()
+    ensures name { asked_kinds (NewName Duplicate) (one_column int8) (codes "a") (of_type int16) ≡ Duplicate ∷ [] }
+    ensures new_name { asked_kinds (NewName Duplicate) (one_column int8) (codes "b") (of_type int16) ≡ [] }
+    ensures number { asked_kinds TruthValue [] (codes "a") (of_type int8) ≡ InvalidOperation ∷ [] }
+    ensures ordered { asked_kinds Order [] (codes "a") (of_type int8) ≡ [] }
+    ensures list { asked_kinds Order [] (codes "a") (of_type (ListType int8)) ≡ InvalidOperation ∷ [] }
+    ensures columns { asked_columns (NewName Duplicate) two_columns ≡ two_columns }
+    ensures no_columns { asked_columns Order two_columns ≡ [] }
+    ensures memory { IsMemoryOrOne [] no_memory }
+    ensures one { IsMemoryOrOne (Duplicate ∷ []) (at_top Duplicate) }
+    ensures none { ¬ (IsMemoryOrOne [] (at_top Duplicate)) }
 {}
 
 /// Source expressions are expanded over the schema, and nodes stand for what comes out.
 pub fn expanded_sources()
-    ensures outputs { HasExpandedOutputs [] (one_column int8) a_items (all ∷ []) (node_named (codes "a") 0 ∷ []) (one_column int8) }
-    ensures outputs_of_nothing { HasExpandedOutputs [] [] [] (all ∷ []) [] [] }
-    ensures no_outputs { ¬ (HasExpandedOutputs [] (one_column int8) a_items (nth (pos 1) ∷ []) [] []) }
+    ensures outputs { HasExpandedOutputs [] (one_column int8) Duplicate a_items (all ∷ []) (node_named (codes "a") 0 ∷ []) (one_column int8) }
+    ensures outputs_of_nothing { HasExpandedOutputs [] [] Duplicate [] (all ∷ []) [] [] }
+    ensures no_outputs { ¬ (HasExpandedOutputs [] (one_column int8) Duplicate a_items (nth (pos 1) ∷ []) [] []) }
     ensures predicate { HasExpandedPredicate [] truths keep_items all (node_named (codes "keep") 0) }
     ensures no_predicate { ¬ (HasExpandedPredicate [] two_columns a_items all (node_named (codes "a") 0)) }
-{}
-
-/// An hstack of outputs records the columns of its input with theirs, and of none those of its input.
-pub fn lowered_hstacks()
-    ensures over_an_input { lowered_hstack two_columns (as_it_is a int32 ∷ as_it_is c Truth ∷ []) (scan_of two_columns)
-        ≡ node (hstack_op (named a ∷ named c ∷ []) (Some ((codes "a", int32) ∷ (codes "b", int32) ∷ (codes "c", Truth) ∷ []))) (more (scan_of two_columns) no_more) }
-    ensures of_nothing { lowered_hstack two_columns [] (scan_of two_columns) ≡ node (hstack_op [] (Some two_columns)) (more (scan_of two_columns) no_more) }
 {}
 
 /// A predicate is of the type of truth values, and what stands for it says the same.
@@ -119,11 +123,11 @@ pub fn lowered_predicates()
 
 /// Why an expression can't be a predicate: it has no type, or another than that of truth values.
 pub fn refusals_of_predicates()
-    ensures memory { IsPredicateRefusal [] [] a no_memory }
-    ensures no_such_column { IsPredicateRefusal [] [] a (at_top ColumnNotFound) }
-    ensures number { IsPredicateRefusal [] (one_column int8) a (at_top InvalidOperation) }
-    ensures other_kind { ¬ (IsPredicateRefusal [] (one_column int8) a (at_top ColumnNotFound)) }
-    ensures predicate { ¬ (IsPredicateRefusal [] truths keep (at_top InvalidOperation)) }
+    ensures memory { IsOutputRefusal [] [] TruthValue a [] no_memory }
+    ensures no_such_column { IsOutputRefusal [] [] TruthValue a [] (at_top ColumnNotFound) }
+    ensures number { IsOutputRefusal [] (one_column int8) TruthValue a [] (at_top InvalidOperation) }
+    ensures other_kind { ¬ (IsOutputRefusal [] (one_column int8) TruthValue a [] (at_top ColumnNotFound)) }
+    ensures predicate { ¬ (IsOutputRefusal [] truths TruthValue keep [] (at_top InvalidOperation)) }
 {}
 
 /// Why source expressions aren't projected or don't filter: they aren't expanded, or what comes out is refused.

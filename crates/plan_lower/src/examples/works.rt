@@ -1,14 +1,17 @@
 //! Nodes over one input, whatever they do: what their lists, names and schemas are, and why one isn't lowered.
 
-ghost use Rattle.std.specs.Prelude.{◌≡◌, [], ◌∷◌, pos, codes, true, false, Some, None};
+ghost use Rattle.std.specs.Prelude.{◌≡◌, List, [], ◌∷◌, map, pos, codes, true, false, Some, None};
 ghost use Rattle.plan_types.specs.Errors.{no_memory, at_top};
 ghost use Rattle.plan_types.specs.declared.error.ErrorKind.TheVariants.{ColumnNotFound, ComputeError, Duplicate};
-ghost use Rattle.plan_dsl.specs.Plans.{DropWork, FilterWork, GroupByWork, HStackWork, SelectWork, SimpleProjectionWork, named};
+ghost use Rattle.plan_dsl.specs.Plans.{CachePass, DropWork, FilterWork, GroupByWork, HStackWork, HitsOption, PassWork, RechunkPass, SelectWork, SimpleProjectionWork, SinkPass, SliceWork, named, over_op};
 ghost use Rattle.plan_dsl.specs.Samples.{all, nth, root};
 ghost use Rattle.plan_dsl.specs.Sources.{written};
-ghost use Rattle.plan_lower.specs.Works.{AreUnbroken, IsWorkRefusal, lowered_lists, lowered_names, lowered_output, recorded_of, source_lists, unbroken_schema};
+ghost use Rattle.plan_arena.specs.Layers.{layer};
+ghost use Rattle.plan_arena.specs.declared.ir.IR.{IR};
+ghost use Rattle.plan_lower.specs.Steps.{step_lists, step_option, step_work};
+ghost use Rattle.plan_lower.specs.Works.{AreUnbroken, IsPlainAt, IsPlainRefusal, IsWorkRefusal, lowered_lists, lowered_names, lowered_output, recorded_of, source_lists, unbroken_schema};
 ghost use Rattle.plan_infer.specs.Samples.{int8, int32, one_column, two_columns, a, b};
-ghost use Rattle.plan_lower.specs.Samples.{alone, as_it_is, grouped_columns};
+ghost use Rattle.plan_lower.specs.Samples.{ForPlans, alone, as_it_is, grouped_columns, plain_steps as plain, scan_layer};
 
 /// The lists of a group-by, their names and columns, and what a node records of its schema.
 pub fn lists_of_works()
@@ -32,4 +35,23 @@ pub fn works_that_are_lowered()
     ensures name_twice { IsWorkRefusal [] (one_column int8) SelectWork ((all ∷ all ∷ []) ∷ []) (at_top Duplicate) }
     ensures no_keys { IsWorkRefusal [] (one_column int8) GroupByWork ([] ∷ (all ∷ []) ∷ []) (at_top ComputeError) }
     ensures absent { IsWorkRefusal [] (one_column int8) (DropWork true) ((root (written b) ∷ []) ∷ []) (at_top ColumnNotFound) }
+{}
+
+/// What steps without expressions do, with their lists and options.
+pub fn plain_steps()
+    ensures works { map step_work plain ≡ SliceWork (pos 1) 2 ∷ PassWork (CachePass 7) ∷ PassWork SinkPass ∷ PassWork RechunkPass ∷ [] }
+    ensures lists { map step_lists plain ≡ [] ∷ [] ∷ [] ∷ [] ∷ [] }
+    ensures options { map step_option plain ≡ [] ∷ (HitsOption 4294967295 ∷ []) ∷ [] ∷ [] ∷ [] }
+{}
+
+/// Their nodes, which have the schema of their input and record none.
+pub fn plain_nodes()
+    ensures slice { ForPlans (scan_layer (Some 0) two_columns ∷ layer (over_op (SliceWork (pos 1) 2) [] None) (0 ∷ []) ∷ []) (λ plans.
+        IsPlainAt two_columns plans 1 0 (SliceWork (pos 1) 2) [] two_columns) }
+    ensures cache { ForPlans (scan_layer (Some 0) two_columns ∷ layer (over_op (PassWork (CachePass 7)) [] None) (0 ∷ []) ∷ []) (λ plans.
+        IsPlainAt two_columns plans 1 0 (PassWork (CachePass 7)) [] two_columns) }
+    ensures sink { ForPlans (scan_layer (Some 0) two_columns ∷ layer (over_op (PassWork SinkPass) [] None) (0 ∷ []) ∷ []) (λ plans.
+        IsPlainAt two_columns plans 1 0 (PassWork SinkPass) [] two_columns) }
+    ensures other_schema { (plans : List IR) → ¬ (IsPlainAt two_columns plans 1 0 (PassWork SinkPass) [] (one_column int8)) }
+    ensures refused { IsPlainRefusal two_columns (SliceWork (pos 1) 2) [] no_memory }
 {}

@@ -24,6 +24,9 @@ decreases-read_order l = 9 * depth (view l.value.now) + 3
 abbrev pub decreases-read_optional : goal.decreases-read_optional
 decreases-read_optional l = 9 * depth (view l.value.now) + 3
 
+abbrev pub decreases-read_optional_selectors : goal.decreases-read_optional_selectors
+decreases-read_optional_selectors l = 9 * depth (view l.value.now) + 3
+
 abbrev pub decreases-read_listed : goal.decreases-read_listed
 decreases-read_listed l = 9 * depth (view l.value.now) + 2
 

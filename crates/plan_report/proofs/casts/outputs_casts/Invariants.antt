@@ -6,4 +6,4 @@ use Rattle.plan_dsl.specs.Counts.{outputs_casts}
 use Rattle.plan_report.proofs.casts.outputs_casts.Given as goal
 
 abbrev pub invariant-loop-output : goal.invariant-loop-output
-invariant-loop-output l = (es : List (Named Expression)) → DenoteNamed l.arena (map named_node l.output-items) es → l.count ≡ outputs_casts (take l.output-index es)
+invariant-loop-output l = (es : List (Named Expression)) → DenoteNamed l.arena (map named_node l.outputs) es → l.count ≡ outputs_casts (take l.output-index es)

@@ -14,7 +14,7 @@ use Rattle.plan_arena.specs.Unchecked.{HasUncheckedSchema, IsUncheckedAt}
 use Rattle.plan_arena.proofs.DenotationLemmas.{some_same}
 use Rattle.plan_arena.proofs.ItemLemmas.{filter_denoted, layer_op, within}
 use Rattle.plan_arena.proofs.PlanSchemaLemmas.{keeps_alone, keeps_none, unchecked_at_item}
-use Rattle.plan_arena.proofs.RecordedSchemaLemmas.{filter_records, item_records}
+use Rattle.plan_arena.proofs.RecordedSchemaLemmas.{item_records, kept_records}
 use Rattle.plan_arena.proofs.UncheckedLemmas.{one_schema, some_one}
 use Rattle.plan_arena.proofs.examples.schemas.nodes_with_unchecked_predicates.Goals as goal
 
@@ -38,7 +38,7 @@ is_schema : (schema : Schema) → IsUncheckedAt (filtered_scan schema) 1 (column
 is_schema schema =
     let records = item_records (filtered_scan schema) (DataFrameScan (Some 0) schema) (columns schema) refl in
     let item = Filter (node_at 0) (a_at 0) in
-    unchecked_at_item (filtered_scan schema) 1 item (columns schema) refl (filter_records (filtered_scan schema) item (DataFrameScan (Some 0) schema) (named_at "a" 0) 0 (columns schema) refl refl records)
+    unchecked_at_item (filtered_scan schema) 1 item (columns schema) refl (kept_records (filtered_scan schema) item (DataFrameScan (Some 0) schema) (filter_op (named_at "a" 0)) 0 (columns schema) refl refl refl records)
 
 none_without : (schema : Schema) (t : Plan) → Denotes (HoldsPlan [] (filtered_scan schema)) 1 t → ⊥
 none_without schema (node op ts) d =

@@ -8,7 +8,7 @@ use Rattle.plan_coerce.specs.Optimizer.{AreWrittenOut}
 use Rattle.plan_lower.specs.Groups.{not_typed, twice}
 use Rattle.plan_lower.specs.Projection.{out_of_memory}
 use Rattle.plan_lower.proofs.GroupLemmas.{has_aggregates, name_at, named_names, projected_names}
-use Rattle.plan_lower.proofs.ProjectionLemmas.{earlier_kept, has_outputs, projected_typed, roots_are}
+use Rattle.plan_lower.proofs.ProjectionLemmas.{earlier_kept, projected_typed, roots_are}
 use Rattle.plan_lower.proofs.conversion.groups.aggregate_coerced.Goals as goal
 
 pub coerce_all-requires : goal.coerce_all-requires
@@ -27,8 +27,8 @@ returns-clause-ok c =
     let own = roots_are exprs p.outputs p.nodes_are in
     let roots = ap (map (λ e. (named_node e).expression)) c.as_slice.ensures.value ∙ own in
     let coerced = c.in_ok-coerce_all.ensures.ok first (projected_typed exprs c.as_slice.result.now p c.as_slice.ensures.value) in
-    let outputs = has_outputs r schema first c.project.new.arena c.coerce_all.new.arena _ _ _ p (subst (AreWrittenOut r schema first c.project.new.arena c.coerce_all.new.arena) roots coerced) in
-    has_aggregates r schema first c.project.new.arena c.coerce_all.new.arena c.project.new.types _ _ _ _ (columns c.args.keys) (columns c.in_ok-whole.whole) p outputs own c.in_ok-projection.ensures.right c.in_ok-projection.ensures.kept c.in_ok-whole.ensures.ok
+    let written = subst (AreWrittenOut r schema first c.project.new.arena c.coerce_all.new.arena) roots coerced in
+    has_aggregates r schema first c.project.new.arena c.coerce_all.new.arena c.project.new.types _ _ _ _ (columns c.args.keys) (columns c.in_ok-whole.whole) p written own c.in_ok-projection.ensures.right c.in_ok-projection.ensures.kept c.in_ok-whole.ensures.ok
 
 pub returns-clause-kept : goal.returns-clause-kept
 returns-clause-kept c =

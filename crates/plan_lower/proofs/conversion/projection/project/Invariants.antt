@@ -19,5 +19,5 @@ invariant-loop-expr l = record {
   extends : Extends l.initial.types l.types;
   right : IsRight (registry l.udfs) (columns l.schema) l.arena l.types;
   kept : AllByRecursion (IsKept l.types) (map (λ e. (named_node e).expression) l.items.items);
-  so_far : Projecting (registry l.udfs) (columns l.schema) (length l.initial.arena) l.arena (plain_trees l.fn.exprs) (map plain_tree (into_iter_items l.expr-iterator)) (map named_node l.items.items) (columns l.output);
+  so_far : Projecting (registry l.udfs) (columns l.schema) l.fn.asked (length l.initial.arena) l.arena (plain_trees l.fn.exprs) (map plain_tree (into_iter_items l.expr-iterator)) (map named_node l.items.items) (columns l.output);
 }

@@ -1,4 +1,4 @@
-use Rattle.std.proofs.Common.{length, map, sym, ap, ◌∙◌, subst, arith}
+use Rattle.std.proofs.Common.{length, map, ap, ◌∙◌, subst}
 use Rattle.plan_types.specs.Schemas.{columns}
 use Rattle.plan_dsl.specs.Registry.{registry}
 use Rattle.plan_arena.specs.Items.{named_node}
@@ -22,7 +22,7 @@ returns-in-Ok-clause-ok c =
     let exprs = c.in_ok-projection.projection.expr.items.items in
     let roots = ap (map (λ e. (named_node e).expression)) c.as_slice.ensures.value ∙ roots_are exprs p.outputs p.nodes_are in
     let coerced = c.in-Ok.ensures.ok first (projected_typed exprs c.as_slice.result.now p c.as_slice.ensures.value) in
-    has_outputs r s first c.project.new.arena c.coerce_all.new.arena _ _ _ p (subst (AreWrittenOut r s first c.project.new.arena c.coerce_all.new.arena) roots coerced)
+    has_outputs r s c.args.asked first c.project.new.arena c.coerce_all.new.arena _ _ _ p (subst (AreWrittenOut r s first c.project.new.arena c.coerce_all.new.arena) roots coerced)
 
 pub returns-in-Ok-clause-kept : goal.returns-in-Ok-clause-kept
 returns-in-Ok-clause-kept c =

@@ -4,9 +4,10 @@ use Rattle.plan_types.specs.Errors.{at_top, no_memory}
 use Rattle.plan_types.specs.declared.error.ErrorKind.TheVariants.{ColumnNotFound, Duplicate, NoMemory}
 use Rattle.plan_dsl.specs.Ops.{Expression}
 use Rattle.plan_expand.specs.Refusals.{unexpanded}
-use Rattle.plan_infer.specs.Samples.{int8, one_column, a}
+use Rattle.plan_infer.specs.Samples.{int8, of_type, one_column, a}
+use Rattle.plan_lower.specs.declared.conversion.asked.Asked.TheVariants.{NewName}
 use Rattle.plan_lower.specs.Groups.{IsAggregateRefusal, aggregates_unexpanded, keys_unexpanded, not_grouped, not_typed, of_aggregates, of_keys, twice, without_keys}
-use Rattle.plan_lower.specs.Projection.{IsProjectionRefusal, out_of_memory, refused, repeated}
+use Rattle.plan_lower.specs.Projection.{IsProjectionRefusal, against, out_of_memory, refused}
 use Rattle.plan_lower.proofs.examples.groups.refusals_of_groups.Goals as goal
 
 pub returns-clause-without_keys : goal.returns-clause-without_keys
@@ -20,7 +21,7 @@ returns-clause-key_twice c = of_keys (refused (record {
   split = refl;
   before = one_column int8;
   names = refl;
-  refusal = repeated refl refl;
+  refusal = against (of_type int8) Duplicate refl refl refl;
 }))
 
 pub returns-clause-aggregate_named_as_a_key : goal.returns-clause-aggregate_named_as_a_key
@@ -33,7 +34,7 @@ no_split : (front back : List Expression) (tree : Expression) → [] ≡ front +
 no_split [] back tree e = cc
 no_split (first ∷ front) back tree e = cc
 
-none_refused : IsProjectionRefusal [] [] Duplicate [] (at_top Duplicate) → ⊥
+none_refused : IsProjectionRefusal [] [] (NewName Duplicate) [] (at_top Duplicate) → ⊥
 none_refused (out_of_memory e) = no_memory_else e
 none_refused (refused r) = no_split r.front r.back r.tree r.split
 

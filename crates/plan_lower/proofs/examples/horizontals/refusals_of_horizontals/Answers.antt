@@ -1,6 +1,5 @@
 use Rattle.std.proofs.Common.{refl}
 use Rattle.plan_types.specs.declared.error.ErrorKind.TheVariants.{ColumnNotFound, InvalidOperation}
-use Rattle.plan_lower.specs.Predicates.{without_type}
 use Rattle.plan_lower.specs.Projection.{untyped}
 use Rattle.plan_lower.proofs.examples.horizontals.refusals_of_horizontals.Goals as goal
 
@@ -23,4 +22,4 @@ pub returns-clause-number_last : goal.returns-clause-number_last
 returns-clause-number_last c = untyped InvalidOperation refl refl
 
 pub returns-clause-predicate : goal.returns-clause-predicate
-returns-clause-predicate c = without_type ColumnNotFound refl refl
+returns-clause-predicate c = untyped ColumnNotFound refl refl

@@ -10,11 +10,10 @@ returns-clause-outputs c = record {
   expanded = refl;
   lowered = record {
     outputs = as_it_is a int8 ∷ [];
-    selects = record {
-      trees_are = refl;
-      each = (record { typed = refl; same = record { typing = refl; name = refl; meaning = λ rows. refl }; strict = refl; casts = refl; names = (tt, tt); wide = refl }, tt);
-      distinct = (refl, tt);
-    };
+    trees_are = refl;
+    each = (record { typed = refl; same = record { typing = refl; name = refl; meaning = λ rows. refl }; strict = refl; casts = refl; names = (tt, tt); wide = refl }, tt);
+    types = refl;
+    distinct = (refl, tt);
     denotes = (refl, ([], refl, tt), tt);
     columns_are = refl;
   };
@@ -24,7 +23,7 @@ pub returns-clause-outputs_of_nothing : goal.returns-clause-outputs_of_nothing
 returns-clause-outputs_of_nothing c = record {
   trees = [];
   expanded = refl;
-  lowered = record { outputs = []; selects = record { trees_are = refl; each = tt; distinct = tt }; denotes = tt; columns_are = refl };
+  lowered = record { outputs = []; trees_are = refl; each = tt; types = refl; distinct = tt; denotes = tt; columns_are = refl };
 }
 
 pub returns-clause-no_outputs : goal.returns-clause-no_outputs

@@ -10,6 +10,7 @@ returns-clause-columns c = record {
   trees_are = refl;
   nodes_are = refl;
   columns_are = refl;
+  types = refl;
   each = (record { denotes = ([], (omega arith, refl), tt); typed = refl; names = (tt, tt); wide = refl }, (record { denotes = ([], (omega arith, refl), tt); typed = refl; names = (tt, tt); wide = refl }, tt));
   distinct = (refl, (refl, tt));
 }
@@ -27,6 +28,6 @@ returns-clause-one_more c = record {
   is = record { denotes = ([], (omega arith, refl), tt); typed = refl; names = (tt, tt); wide = refl };
   tree_is = refl;
   node_is = refl;
-  new_name = refl;
+  unbroken = refl;
   column_is = refl;
 }

@@ -9,7 +9,7 @@ use Rattle.plan_arena.specs.declared.plan.IRPlan.{IRPlan}
 use Rattle.plan_arena.specs.Denotation.{Denotes}
 use Rattle.plan_arena.specs.Layers.{layer}
 use Rattle.plan_arena.specs.Items.{HoldsPlan, DenotesPlan, plan_layer}
-use Rattle.plan_lower.specs.Lowering.{resolved_select}
+use Rattle.plan_lower.specs.Samples.{select_of}
 use Rattle.plan_infer.specs.Samples.{two_columns, a}
 use Rattle.plan_lower.proofs.ExamplePlanLemmas.{one_plan, item_at, scan_denotes}
 use Rattle.plan_lower.proofs.examples.plans.no_lowerings.Goals as goal
@@ -32,7 +32,7 @@ pub returns-clause-other_schema : goal.returns-clause-other_schema
 returns-clause-other_schema c = λ lowering top plans typed.
     let scan = node (scan_op (Some 0) two_columns) no_more in
     let same = one_plan lowering.expr_arena lowering.lp_arena lowering.lp_top.0 typed.tree scan typed.denotes (denotes lowering (Some 0) two_columns top plans) in
-    one_is_not_two _ _ _ (some_is _ _ (subst (λ t. schema_of [] (resolved_select (a ∷ []) scan) ≡ schema_of [] t) same typed.schema))
+    one_is_not_two _ _ _ (some_is _ _ (subst (λ t. schema_of [] (select_of (a ∷ []) scan) ≡ schema_of [] t) same typed.schema))
 
 pub returns-clause-other_frame : goal.returns-clause-other_frame
 returns-clause-other_frame c = λ lowering top plans same.

@@ -3,8 +3,9 @@ use Rattle.std.specs.List.{AllByRecursion}
 use Rattle.plan_types.specs.Types.{Truth}
 use Rattle.plan_types.specs.declared.error.ErrorKind.TheVariants.{ColumnNotFound}
 use Rattle.plan_dsl.specs.Aliases.{core}
-use Rattle.plan_dsl.specs.Expansion.{expansions}
 use Rattle.plan_dsl.specs.Ops.{Expression}
+use Rattle.plan_dsl.specs.Plans.{SelectWork}
+use Rattle.plan_dsl.specs.Resolving.{expanded_lists}
 use Rattle.plan_dsl.specs.Sources.{written}
 use Rattle.plan_dsl.specs.Literals.{settled}
 use Rattle.plan_dsl.specs.Typing.{typing}
@@ -21,10 +22,15 @@ no_outputs (output ∷ outputs) trees each =
     let typed : Err ColumnNotFound ≡ Ok output.typed = subst (λ t. typing [] (one_column Truth) (settled (core t)) ≡ Ok output.typed) (first_tree output outputs trees) each.0.typed in
     cc
 
-only_c : (trees : List Expression) → expansions [] (one_column Truth) (written c ∷ []) ≡ Ok trees → trees ≡ c ∷ []
+first_list : (outputs : List Lowered) (lists : List (List Lowered)) → map (map (λ o. o.tree)) (outputs ∷ lists) ≡ (c ∷ []) ∷ [] → map (λ o. o.tree) outputs ≡ c ∷ []
+first_list outputs lists e = cc
+
+no_lists : (lists : List (List Lowered)) → map (map (λ o. o.tree)) lists ≡ (c ∷ []) ∷ [] → AllByRecursion (AllByRecursion (IsLowered [] (one_column Truth))) lists → ⊥
+no_lists [] trees each = cc
+no_lists (outputs ∷ lists) trees each = no_outputs outputs (first_list outputs lists trees) each.0
+
+only_c : (trees : List (List Expression)) → expanded_lists (one_column Truth) SelectWork ((written c ∷ []) ∷ []) ≡ Ok trees → trees ≡ (c ∷ []) ∷ []
 only_c trees e = cc
 
 pub returns-clause-select_of_no_column : goal.returns-clause-select_of_no_column
-returns-clause-select_of_no_column k = λ plans is.
-    let selects = is.has.lowered.selects in
-    no_outputs is.has.lowered.outputs (selects.trees_are ∙ only_c is.has.trees is.has.expanded) selects.each
+returns-clause-select_of_no_column k = λ plans is. no_lists is.outputs (is.trees_are ∙ only_c is.trees is.expanded) is.unbroken.each

@@ -1,6 +1,8 @@
 use Rattle.std.proofs.Common.{◌≡◌, List, [], ◌∷◌, codes, true, None, Ok, refl}
 use Rattle.plan_types.specs.Types.{Truth}
 use Rattle.plan_types.specs.Schemas.{Name, Columns}
+use Rattle.plan_types.specs.declared.error.ErrorKind.{ErrorKind}
+use Rattle.plan_types.specs.declared.error.ErrorKind.TheVariants.{ComputeError, Duplicate}
 use Rattle.plan_dsl.specs.Trees.{node, no_more}
 use Rattle.plan_dsl.specs.Ops.{ColumnOp, Expression}
 use Rattle.plan_dsl.specs.Plans.{scan_op}
@@ -12,6 +14,7 @@ use Rattle.plan_bounds.proofs.BoundLemmas.{scan_bounded}
 use Rattle.plan_lower.specs.Outputs.{Lowered, IsLowered, HasExpandedOutputs}
 use Rattle.plan_lower.specs.Samples.{node_named}
 use Rattle.plan_lower.proofs.ExamplePlanLemmas.{item_at, scan_denotes, built}
+use Rattle.plan_lower.proofs.PlanLemmas.{hstack_work, select_work}
 use Rattle.plan_lower.proofs.examples.plans.nodes_that_stand_for_plans.Goals as goal
 
 pub returns-clause-built : goal.returns-clause-built
@@ -29,13 +32,16 @@ keep_lowered = record { typed = refl; same = record { typing = refl; name = refl
 a_lowered : IsLowered [] (truths (codes "a")) (output (codes "a"))
 a_lowered = record { typed = refl; same = record { typing = refl; name = refl; meaning = λ rows. refl }; strict = refl; casts = refl; names = (tt, tt); wide = refl }
 
-a_expanded : (sources : List Source) → expansions [] (truths (codes "a")) sources ≡ Ok (a ∷ []) → HasExpandedOutputs [] (truths (codes "a")) a_items sources (node_named (codes "a") 0 ∷ []) (truths (codes "a"))
-a_expanded sources expanded = record {
+a_expanded : (twice : ErrorKind) (sources : List Source) → expansions [] (truths (codes "a")) sources ≡ Ok (a ∷ []) → HasExpandedOutputs [] (truths (codes "a")) twice a_items sources (node_named (codes "a") 0 ∷ []) (truths (codes "a"))
+a_expanded twice sources expanded = record {
   trees = a ∷ [];
   expanded = expanded;
   lowered = record {
     outputs = output (codes "a") ∷ [];
-    selects = record { trees_are = refl; each = (a_lowered, tt); distinct = (refl, tt) };
+    trees_are = refl;
+    each = (a_lowered, tt);
+    types = refl;
+    distinct = (refl, tt);
     denotes = (refl, ([], refl, tt), tt);
     columns_are = refl;
   };
@@ -58,23 +64,12 @@ pub returns-clause-filters : goal.returns-clause-filters
 returns-clause-filters c = λ plans is. (1, item_at plans _ 2 _ is refl, (0, item_at plans _ 1 _ is refl, refl))
 
 pub returns-clause-select : goal.returns-clause-select
-returns-clause-select c = λ plans is. record {
-  nodes = node_named (codes "a") 0 ∷ [];
-  has = a_expanded (all ∷ []) refl;
-  below = 0;
-  nothing = λ e. absurd cc;
-  something = λ p. refl;
-  item = item_at plans _ 1 _ is refl;
-}
+returns-clause-select c = λ plans is.
+    select_work [] a_items plans 1 0 (truths (codes "a")) (truths (codes "a")) (all ∷ []) (node_named (codes "a") 0 ∷ []) 0 (a_expanded Duplicate (all ∷ []) refl) (λ e. absurd cc) (λ p. refl) (item_at plans _ 1 _ is refl)
 
 pub returns-clause-hstack : goal.returns-clause-hstack
-returns-clause-hstack c = λ plans is. record {
-  nodes = node_named (codes "a") 0 ∷ [];
-  own = truths (codes "a");
-  has = a_expanded (written a ∷ []) refl;
-  whole = refl;
-  item = item_at plans _ 1 _ is refl;
-}
+returns-clause-hstack c = λ plans is.
+    hstack_work [] a_items plans 1 0 (truths (codes "a")) (truths (codes "a")) (written a ∷ []) (node_named (codes "a") 0 ∷ []) (truths (codes "a")) (a_expanded ComputeError (written a ∷ []) refl) refl (item_at plans _ 1 _ is refl)
 
 pub returns-clause-scan : goal.returns-clause-scan
 returns-clause-scan c = λ plans is. record {

@@ -1,7 +1,0 @@
-use Rattle.std.proofs.Common.{◌≡◌}
-use Rattle.plan_types.specs.Schemas.{columns}
-use Rattle.plan_dsl.specs.Drops.{have_names}
-use Rattle.plan_lower.proofs.conversion.drops.has_names.Given as goal
-
-abbrev pub invariant-loop-name : goal.invariant-loop-name
-invariant-loop-name l = have_names (columns l.schema) l.name-iterator ≡ have_names (columns l.schema) l.names.keys

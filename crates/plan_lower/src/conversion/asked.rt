@@ -1,0 +1,12 @@
+//! What is asked of expressions as they are lowered.
+
+use plan_types::error::ErrorKind;
+
+/// What is asked of each of some expressions: a name that none before it has, where another breaks that kind of rule, or a
+/// type, that of truth values or one whose values have an order.
+#[derive(Clone, Copy)]
+pub(crate) enum Asked {
+    NewName(ErrorKind),
+    TruthValue,
+    Order,
+}
