@@ -9,7 +9,7 @@ use Rattle.plan_dsl.specs.Ops.{Op, ColumnOp, BinaryOp, CastOp, LenOp, SliceOp, A
 use Rattle.plan_dsl.specs.declared.sort_options.SortOptions.{SortOptions}
 use Rattle.plan_dsl.specs.Literals.{literal_op}
 use Rattle.plan_dsl.specs.Names.{Label, FromField, FromNothing, alias_label, column_label, literal_label}
-use Rattle.plan_dsl.specs.Plans.{Work, SelectWork, HStackWork, GroupByWork, FilterWork, SimpleProjectionWork, DropWork, SliceWork, SortWork, DistinctWork, PassWork, CachePass, SinkPass, RechunkPass, PlanKind, ScanKind, OverKind, RefusedKind, PlanOp, Plan, Named, scan_op, select_op, hstack_op, group_by_op, filter_op, simple_projection_op, over_op, sort_work, function_work, column_names, expressions_of}
+use Rattle.plan_dsl.specs.Plans.{Work, SelectWork, HStackWork, GroupByWork, FilterWork, SimpleProjectionWork, DropWork, SliceWork, SortWork, DistinctWork, PassWork, CachePass, SinkPass, RechunkPass, PlanKind, ScanKind, OverKind, RefusedKind, PlanOp, OverInput, Plan, Named, scan_op, select_op, hstack_op, group_by_op, filter_op, simple_projection_op, over_op, sort_work, function_work, column_names, expressions_of}
 use Rattle.plan_dsl.specs.PlanRules.{keeps_schema}
 use Rattle.plan_arena.specs.Aggregates.{input_at, method_at}
 use Rattle.plan_arena.specs.Denotation.{Denotes, DenoteAll, DenotesTree}
@@ -108,6 +108,11 @@ plan_layer Invalid = layer (record { kind = RefusedKind []; recorded = None }) [
 -- the expressions of a node, of all its lists in order
 abbrev pub nodes_of : {E : Type 0} → PlanKind E → List E
 nodes_of kind = flat_map (λ list. list.outputs) (expressions_of kind)
+
+-- the expressions of the first list, of no list none
+abbrev pub first_of : {E : Type 0} → List (OverInput E) → List E
+first_of [] = []
+first_of (list ∷ lists) = list.outputs
 
 -- a node over one input that records no schema, since it keeps that of its input
 pub record KeepsInput (item : Layer (PlanOp (Named ℕ))) (input : ℕ) : Type 0 where

@@ -1,7 +1,10 @@
 -- The options that items of a lowered plan carry: what they do has none of them, since they mean nothing.
-use Rattle.std.specs.Prelude.{List, [], ◌∷◌}
+use Rattle.std.specs.Prelude.{◌≡◌, List, [], ◌∷◌, Result, IfOk, IfErr}
 use Rattle.std.specs.List.{flat_map}
+use Rattle.plan_types.specs.Errors.{no_memory}
+use Rattle.plan_types.specs.declared.error.PlanError.{PlanError}
 use Rattle.plan_dsl.specs.Plans.{PlanOption, HitsOption, OrderOption, ProjectionOption}
+use Rattle.plan_arena.specs.Items.{plan_layer}
 use Rattle.plan_arena.specs.declared.ir.IR.{IR}
 use Rattle.plan_arena.specs.declared.ir.IR.TheVariants.{Cache, DataFrameScan, Distinct, Filter, GroupBy, HStack, MapFunction, Select, SimpleProjection, Sink, Slice, Sort, Invalid}
 
@@ -24,3 +27,9 @@ option_of Invalid = []
 -- the options of an arena's items, in the order of their numbers
 abbrev pub options_of : List IR → List PlanOption
 options_of items = flat_map option_of items
+
+-- an answered copy does what the item does, over the same inputs, and has its options; a refusal is for want of memory
+pub record CopiesItem (item : IR) (result : Result IR PlanError) : Type 0 where
+  pub ok : IfOk result (λ copy. plan_layer copy ≡ plan_layer item)
+  pub options : IfOk result (λ copy. option_of copy ≡ option_of item)
+  pub err : IfErr result (λ error. error ≡ no_memory)

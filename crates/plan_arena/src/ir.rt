@@ -2,12 +2,12 @@
 ghost use Rattle.std.specs.Prelude.{◌≡◌, ◌≢◌, ◌++◌, List, map, IfOk, IfErr, IfSome, IsTrue, MatchOption, Some, is_some};
 ghost use Rattle.plan_types.specs.Errors.{no_memory};
 ghost use Rattle.plan_types.specs.Schemas.{columns};
-ghost use Rattle.plan_dsl.specs.Plans.{Plan};
+ghost use Rattle.plan_dsl.specs.Plans.{Plan, expressions_of};
 ghost use Rattle.plan_dsl.specs.PlanRules.{schema_of};
 ghost use Rattle.plan_dsl.specs.Registry.{Registry};
-ghost use Rattle.plan_arena.specs.Items.{named_node, node_name, nodes_of, plan_layer, DenotesItem, HasInputs, KeepsInput};
+ghost use Rattle.plan_arena.specs.Items.{first_of, named_node, node_name, nodes_of, plan_layer, DenotesItem, HasInputs, KeepsInput};
 ghost use Rattle.plan_arena.specs.Layers.{op_of};
-ghost use Rattle.plan_arena.specs.Options.{option_of};
+ghost use Rattle.plan_arena.specs.Options.{option_of, CopiesItem};
 ghost use Rattle.plan_arena.specs.RecordedSchemas.{schema_recorded};
 ghost use Rattle.plan_arena.specs.Runs.{IsAccepted};
 ghost use Rattle.plan_arena.specs.Unchecked.{unchecked_schema, KeepsOtherRules};
@@ -242,7 +242,8 @@ impl IR {
 
     /// The expressions of the node, of a group-by its keys and its aggregates: the second list of any other is empty.
     pub fn expressions(&self) -> (&[ExprIR], &[ExprIR])
-        ensures { map named_node result.0.now ++ map named_node result.1.now ≡ nodes_of (op_of (plan_layer self.now)).kind }
+        ensures first { map named_node result.0.now ≡ first_of (expressions_of (op_of (plan_layer self.now)).kind) }
+        ensures all { map named_node result.0.now ++ map named_node result.1.now ≡ nodes_of (op_of (plan_layer self.now)).kind }
     {
         match self {
             IR::Filter { predicate, .. } => (slice::from_ref(predicate), &[]),
@@ -287,18 +288,14 @@ impl IR {
 // Copies of items, by their kind.
 
 fn scan_copy(table: Option<u32>, schema: &Schema, alloc: Global) -> Result<IR, PlanError>
-    ensures ok { IfOk result (λ copy. plan_layer copy ≡ plan_layer (IR.DataFrameScan table schema.now)) }
-    ensures options { IfOk result (λ copy. option_of copy ≡ option_of (IR.DataFrameScan table schema.now)) }
-    ensures err { IfErr result (λ error. error ≡ no_memory) }
+    ensures { CopiesItem (IR.DataFrameScan table schema.now) result }
 {
     let schema = schema.try_clone(alloc)?;
     Ok(IR::DataFrameScan { table, schema })
 }
 
 fn filter_copy(input: Node, predicate: &ExprIR, alloc: Global) -> Result<IR, PlanError>
-    ensures ok { IfOk result (λ copy. plan_layer copy ≡ plan_layer (IR.Filter input predicate.now)) }
-    ensures options { IfOk result (λ copy. option_of copy ≡ option_of (IR.Filter input predicate.now)) }
-    ensures err { IfErr result (λ error. error ≡ no_memory) }
+    ensures { CopiesItem (IR.Filter input predicate.now) result }
 {
     let predicate = predicate.try_clone(alloc)?;
     Ok(IR::Filter { input, predicate })
@@ -312,9 +309,7 @@ fn group_by_copy(
     maintain_order: bool,
     alloc: Global,
 ) -> Result<IR, PlanError>
-    ensures ok { IfOk result (λ copy. plan_layer copy ≡ plan_layer (IR.GroupBy input keys.now aggs.now schema.now maintain_order)) }
-    ensures options { IfOk result (λ copy. option_of copy ≡ option_of (IR.GroupBy input keys.now aggs.now schema.now maintain_order)) }
-    ensures err { IfErr result (λ error. error ≡ no_memory) }
+    ensures { CopiesItem (IR.GroupBy input keys.now aggs.now schema.now maintain_order) result }
 {
     let keys = keys.try_clone(alloc)?;
     let aggs = aggs.try_clone(alloc)?;
@@ -350,9 +345,7 @@ fn hstack_copy(
     options: ProjectionOptions,
     alloc: Global,
 ) -> Result<IR, PlanError>
-    ensures ok { IfOk result (λ copy. plan_layer copy ≡ plan_layer (IR.HStack exprs.now input schema.now options)) }
-    ensures options { IfOk result (λ copy. option_of copy ≡ option_of (IR.HStack exprs.now input schema.now options)) }
-    ensures err { IfErr result (λ error. error ≡ no_memory) }
+    ensures { CopiesItem (IR.HStack exprs.now input schema.now options) result }
 {
     let (exprs, schema) = columns_copy(exprs, schema, alloc)?;
     Ok(IR::HStack {
@@ -370,9 +363,7 @@ fn select_copy(
     options: ProjectionOptions,
     alloc: Global,
 ) -> Result<IR, PlanError>
-    ensures ok { IfOk result (λ copy. plan_layer copy ≡ plan_layer (IR.Select expr.now input schema.now options)) }
-    ensures options { IfOk result (λ copy. option_of copy ≡ option_of (IR.Select expr.now input schema.now options)) }
-    ensures err { IfErr result (λ error. error ≡ no_memory) }
+    ensures { CopiesItem (IR.Select expr.now input schema.now options) result }
 {
     let (expr, schema) = columns_copy(expr, schema, alloc)?;
     Ok(IR::Select {
@@ -384,9 +375,7 @@ fn select_copy(
 }
 
 fn projection_copy(input: Node, columns: &Schema, alloc: Global) -> Result<IR, PlanError>
-    ensures ok { IfOk result (λ copy. plan_layer copy ≡ plan_layer (IR.SimpleProjection input columns.now)) }
-    ensures options { IfOk result (λ copy. option_of copy ≡ option_of (IR.SimpleProjection input columns.now)) }
-    ensures err { IfErr result (λ error. error ≡ no_memory) }
+    ensures { CopiesItem (IR.SimpleProjection input columns.now) result }
 {
     let columns = columns.try_clone(alloc)?;
     Ok(IR::SimpleProjection { input, columns })
@@ -398,9 +387,7 @@ fn sort_copy(
     sort_options: &SortMultipleOptions,
     alloc: Global,
 ) -> Result<IR, PlanError>
-    ensures ok { IfOk result (λ copy. plan_layer copy ≡ plan_layer (IR.Sort input by_column.now sort_options.now)) }
-    ensures options { IfOk result (λ copy. option_of copy ≡ option_of (IR.Sort input by_column.now sort_options.now)) }
-    ensures err { IfErr result (λ error. error ≡ no_memory) }
+    ensures { CopiesItem (IR.Sort input by_column.now sort_options.now) result }
 {
     let by_column = by_column.try_clone(alloc)?;
     let sort_options = sort_options.try_clone(alloc)?;
@@ -412,18 +399,14 @@ fn sort_copy(
 }
 
 fn distinct_copy(input: Node, options: &DistinctOptionsIR, alloc: Global) -> Result<IR, PlanError>
-    ensures ok { IfOk result (λ copy. plan_layer copy ≡ plan_layer (IR.Distinct input options.now)) }
-    ensures options { IfOk result (λ copy. option_of copy ≡ option_of (IR.Distinct input options.now)) }
-    ensures err { IfErr result (λ error. error ≡ no_memory) }
+    ensures { CopiesItem (IR.Distinct input options.now) result }
 {
     let options = options.try_clone(alloc)?;
     Ok(IR::Distinct { input, options })
 }
 
 fn function_copy(input: Node, function: &FunctionIR, alloc: Global) -> Result<IR, PlanError>
-    ensures ok { IfOk result (λ copy. plan_layer copy ≡ plan_layer (IR.MapFunction input function.now)) }
-    ensures options { IfOk result (λ copy. option_of copy ≡ option_of (IR.MapFunction input function.now)) }
-    ensures err { IfErr result (λ error. error ≡ no_memory) }
+    ensures { CopiesItem (IR.MapFunction input function.now) result }
 {
     let function = function.try_clone(alloc)?;
     Ok(IR::MapFunction { input, function })

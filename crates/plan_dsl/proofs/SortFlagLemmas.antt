@@ -15,7 +15,7 @@ use Rattle.plan_dsl.specs.Refusals.{then_ok, each_ok, with_kinds, joined}
 use Rattle.plan_dsl.specs.Sources.{ColumnsOp, Source}
 use Rattle.plan_dsl.specs.Sorting.{are_for}
 use Rattle.plan_dsl.specs.Expansion.{as_expression, expansion, expansions, with_column_put}
-use Rattle.plan_dsl.specs.SortFlags.{count_of, keys_served, each_served, flags_served, sort_flags}
+use Rattle.plan_dsl.specs.SortFlags.{count_of, key_counts, keys_served, each_served, flags_served, sort_flags}
 use Rattle.plan_dsl.specs.Laws.{SortsHaveFlags}
 use Rattle.plan_dsl.proofs.DropLemmas.{then_either_told}
 
@@ -81,19 +81,16 @@ joined_found (Ok items) (Err kinds) found h = absurd cc
 joined_found (Err kind) (Ok others) found h = absurd cc
 joined_found (Err kind) (Err kinds) found h = absurd cc
 
-abbrev counts_of : Columns → List Source → List ℕ
-counts_of schema by = map (λ source. count_of (expansion [] schema source)) by
-
 -- of expressions each is as many keys as it is expanded to
-counts_served : (schema : Columns) (by : List Source) (keys : List Expression) (flags : List Bool) → expansions [] schema by ≡ Ok keys → length flags ≡ length (counts_of schema by) → length (each_served (counts_of schema by) flags) ≡ length keys
+counts_served : (schema : Columns) (by : List Source) (keys : List Expression) (flags : List Bool) → expansions [] schema by ≡ Ok keys → length flags ≡ length (key_counts schema by) → length (each_served (key_counts schema by) flags) ≡ length keys
 counts_served schema [] keys flags h many = ap length (same_found (List ErrorKind) [] keys h)
 counts_served schema (source ∷ by) keys [] h many = absurd (omega (arith, many))
 counts_served schema (source ∷ by) keys (flag ∷ flags) h many =
     let parts = joined_found (expansion [] schema source) (expansions [] schema by) keys h in
     let count = count_of (expansion [] schema source) in
     let first : length (replicate count flag) ≡ length parts.0 = length-replicate count flag ∙ ap count_of parts.2 in
-    let later : length (each_served (counts_of schema by) flags) ≡ length parts.1 = counts_served schema by parts.1 flags parts.3 (omega (arith, many)) in
-    length-append (replicate count flag) (each_served (counts_of schema by) flags) ∙ (λ i. first i + later i) ∙ sym (length-append parts.0 parts.1) ∙ ap length (sym parts.4)
+    let later : length (each_served (key_counts schema by) flags) ≡ length parts.1 = counts_served schema by parts.1 flags parts.3 (omega (arith, many)) in
+    length-append (replicate count flag) (each_served (key_counts schema by) flags) ∙ (λ i. first i + later i) ∙ sym (length-append parts.0 parts.1) ∙ ap length (sym parts.4)
 
 names_expanded : (schema : Columns) (names : List Name) (keys : List Expression) → expansions [] schema (node (ColumnsOp names) no_more ∷ []) ≡ Ok keys → length keys ≡ length names
 names_expanded schema names keys h =

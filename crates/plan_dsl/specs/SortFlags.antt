@@ -16,10 +16,14 @@ abbrev pub count_of : Result (List Expression) ErrorKind → ℕ
 count_of (Ok trees) = length trees
 count_of (Err kind) = 0
 
+-- how many keys each of some expressions is expanded to
+abbrev pub key_counts : Columns → List Source → List ℕ
+key_counts schema by = map (λ source. count_of (expansion [] schema source)) by
+
 -- how many keys each flag serves
 abbrev pub keys_served : Columns → List Source → List ℕ
 keys_served schema (node (ColumnsOp names) no_more ∷ []) = map (λ name. 1) names
-keys_served schema by = map (λ source. count_of (expansion [] schema source)) by
+keys_served schema by = key_counts schema by
 
 -- each flag as often as it serves
 abbrev pub each_served : List ℕ → List Bool → List Bool
@@ -32,7 +36,10 @@ abbrev pub flags_served : List ℕ → List Bool → Result (List Bool) (List Er
 flags_served counts flags =
     if length flags == 1 then Ok flags else if length flags == length counts then Ok (each_served counts flags) else Err (ComputeError ∷ [])
 
--- those of a sort, which keys descend and which have their nulls last
+-- two lists of flags, which keys descend and which have their nulls last
+abbrev pub both_served : List ℕ → List Bool → List Bool → Result (List Bool × List Bool) (List ErrorKind)
+both_served counts descending nulls_last = then_ok (flags_served counts descending) (λ falling. then_ok (flags_served counts nulls_last) (λ last. Ok (falling, last)))
+
+-- those of a sort
 abbrev pub sort_flags : Columns → List Source → List Bool → List Bool → Result (List Bool × List Bool) (List ErrorKind)
-sort_flags schema by descending nulls_last =
-    then_ok (flags_served (keys_served schema by) descending) (λ falling. then_ok (flags_served (keys_served schema by) nulls_last) (λ last. Ok (falling, last)))
+sort_flags schema by descending nulls_last = both_served (keys_served schema by) descending nulls_last

@@ -21,7 +21,7 @@ use Rattle.plan_dsl.specs.Refusals.{joined, then_ok, with_kinds}
 use Rattle.plan_dsl.specs.Registry.{Registry}
 use Rattle.plan_dsl.specs.Resolving.{expanded_over, over_expanded, over_named, resolved_work}
 use Rattle.plan_dsl.specs.Signatures.{has_flags}
-use Rattle.plan_dsl.specs.SortFlags.{count_of, each_served, flags_served, keys_served, sort_flags}
+use Rattle.plan_dsl.specs.SortFlags.{both_served, count_of, each_served, flags_served, key_counts, keys_served, sort_flags}
 use Rattle.plan_dsl.specs.Sources.{ColumnsOp, Source}
 use Rattle.plan_dsl.specs.Trees.{node, no_more}
 use Rattle.plan_dsl.specs.declared.expr.Expr.{Expr}
@@ -37,7 +37,7 @@ use Rattle.plan_expand.specs.Refusals.{IsUnexpanded, no_room as no_place, unexpa
 use Rattle.plan_lower.specs.declared.conversion.asked.Asked.TheVariants.{Order}
 use Rattle.plan_lower.specs.Outputs.{HasOutputs, Lowered}
 use Rattle.plan_lower.specs.Projection.{IsProjectionRefusal}
-use Rattle.plan_lower.specs.Sorts.{HasKeys, both_served, falling, key_counts, nulls_behind}
+use Rattle.plan_lower.specs.Sorts.{HasKeys, falling, nulls_behind}
 use Rattle.plan_lower.specs.Works.{IsWorkAt, IsWorkRefusal, against_a_rule, lowered_names, without_memory}
 use Rattle.plan_lower.proofs.BuiltLemmas.{unexpanded_then}
 use Rattle.plan_lower.proofs.WorkLemmas.{list_expanded, types_against}
@@ -127,31 +127,31 @@ module _ (counts : List ℕ) (flags : List Bool) where
 
 -- both lists of flags
 module _ (counts : List ℕ) (options : SortMultipleOptions) where
-  pub both_found : (down last : List Bool) → flags_served counts (falling options) ≡ Ok down → flags_served counts (nulls_behind options) ≡ Ok last → both_served counts options ≡ Ok (down, last)
+  pub both_found : (down last : List Bool) → flags_served counts (falling options) ≡ Ok down → flags_served counts (nulls_behind options) ≡ Ok last → both_served counts (falling options) (nulls_behind options) ≡ Ok (down, last)
   both_found down last first second =
       ap (λ r. then_ok r (λ d. then_ok (flags_served counts (nulls_behind options)) (λ l. Ok (d, l)))) first ∙ ap (λ r. then_ok r (λ l. Ok (down, l))) second
 
-  pub first_unserved : (error : PlanError) → IsUnexpanded (flags_served counts (falling options)) error → IsUnexpanded (both_served counts options) error
+  pub first_unserved : (error : PlanError) → IsUnexpanded (flags_served counts (falling options)) error → IsUnexpanded (both_served counts (falling options) (nulls_behind options)) error
   first_unserved error r = unexpanded_then (flags_served counts (falling options)) (λ d. then_ok (flags_served counts (nulls_behind options)) (λ l. Ok (d, l))) error r
 
-  pub second_unserved : (down : List Bool) (error : PlanError) → flags_served counts (falling options) ≡ Ok down → IsUnexpanded (flags_served counts (nulls_behind options)) error → IsUnexpanded (both_served counts options) error
+  pub second_unserved : (down : List Bool) (error : PlanError) → flags_served counts (falling options) ≡ Ok down → IsUnexpanded (flags_served counts (nulls_behind options)) error → IsUnexpanded (both_served counts (falling options) (nulls_behind options)) error
   second_unserved down error first r =
       subst (λ r. IsUnexpanded {A = List Bool × List Bool} (then_ok r (λ d. then_ok (flags_served counts (nulls_behind options)) (λ l. Ok (d, l)))) error) (sym first) (unexpanded_then (flags_served counts (nulls_behind options)) (λ l. Ok (down, l)) error r)
 
 -- ---- resolution
 
 module _ (schema : Columns) (by : List Source) (options : SortMultipleOptions) where
-  pub flags_unserved : (counts : List ℕ) (trees : List Expression) (error : PlanError) → expansions [] schema by ≡ Ok trees → counts ≡ keys_served schema by → IsUnexpanded (both_served counts options) error → IsUnexpanded (expanded_over schema (sort_work options) (by ∷ [])) error
+  pub flags_unserved : (counts : List ℕ) (trees : List Expression) (error : PlanError) → expansions [] schema by ≡ Ok trees → counts ≡ keys_served schema by → IsUnexpanded (both_served counts (falling options) (nulls_behind options)) error → IsUnexpanded (expanded_over schema (sort_work options) (by ∷ [])) error
   flags_unserved counts trees error is are r =
-      let flags = subst (λ cs. IsUnexpanded (both_served cs options) error) are r in
+      let flags = subst (λ cs. IsUnexpanded (both_served cs (falling options) (nulls_behind options)) error) are r in
       let own = sort_flags schema by (falling options) (nulls_behind options) in
       let work = unexpanded_then own (λ flags. Ok (SortWork flags.0 flags.1)) error flags in
       let whole = unexpanded_then (resolved_work schema (sort_work options) (by ∷ [])) (λ work. Ok (over_named (trees ∷ []) work)) error work in
       subst (λ r. IsUnexpanded (then_ok r (over_expanded (resolved_work schema (sort_work options) (by ∷ [])))) error) (sym (list_expanded schema by trees is)) whole
 
-  pub keys_are : (counts : List ℕ) (trees : List Expression) (own : SortMultipleOptions) → expansions [] schema by ≡ Ok trees → counts ≡ keys_served schema by → both_served counts options ≡ Ok (falling own, nulls_behind own) → HasKeys schema by options trees own
+  pub keys_are : (counts : List ℕ) (trees : List Expression) (own : SortMultipleOptions) → expansions [] schema by ≡ Ok trees → counts ≡ keys_served schema by → both_served counts (falling options) (nulls_behind options) ≡ Ok (falling own, nulls_behind own) → HasKeys schema by options trees own
   keys_are counts trees own is are served =
-      record { expanded = is; flags = ap (λ cs. both_served cs options) (sym are) ∙ served }
+      record { expanded = is; flags = ap (λ cs. both_served cs (falling options) (nulls_behind options)) (sym are) ∙ served }
 
 -- ---- sorts as nodes
 

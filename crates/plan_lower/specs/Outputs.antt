@@ -1,13 +1,15 @@
 -- Outputs: expressions of one node, with what lowering makes of them.
-use Rattle.std.specs.Prelude.{◌≡◌, ℕ, List, [], map, Ok, IsTrue}
-use Rattle.std.specs.List.{AllByRecursion, flat_map}
+use Rattle.std.specs.Prelude.{◌≡◌, ℕ, List, [], map, true, Ok, IsTrue}
+use Rattle.std.specs.List.{AllByRecursion, flat_map, list_all}
 use Rattle.plan_types.specs.Types.{Ty}
 use Rattle.plan_types.specs.Schemas.{Name, Columns, HasDistinctNames}
 use Rattle.plan_types.specs.declared.error.ErrorKind.{ErrorKind}
 use Rattle.plan_dsl.specs.InlinedCasts.{written_out}
 use Rattle.plan_dsl.specs.Registry.{Registry}
 use Rattle.plan_dsl.specs.Ops.{Expression}
-use Rattle.plan_dsl.specs.Sources.{Source}
+use Rattle.plan_dsl.specs.Sources.{Source, is_plain}
+use Rattle.plan_dsl.specs.Expressions.{plain_trees, trees_of}
+use Rattle.plan_dsl.specs.declared.expr.Exprs.{Exprs}
 use Rattle.plan_dsl.specs.Expansion.{expansions}
 use Rattle.plan_dsl.specs.Names.{label_of, name_of}
 use Rattle.plan_dsl.specs.PlanRules.{type_kinds}
@@ -23,6 +25,12 @@ use Rattle.plan_bounds.specs.LoweredPlans.{has_wide_horizontals}
 use Rattle.plan_lower.specs.Asked.{asked_columns, asked_work}
 use Rattle.plan_lower.specs.declared.conversion.asked.Asked.{Asked}
 use Rattle.plan_lower.specs.declared.conversion.asked.Asked.TheVariants.{NewName}
+
+-- The source expressions are expanded over the schema, of which the named columns are keys, to these, which have plans' ops
+-- alone.
+pub record AreExpandedTo (keys : List Name) (schema : Columns) (sources : List Source) (exprs : Exprs) : Type 0 where
+  pub trees : expansions keys schema sources ≡ Ok (plain_trees exprs)
+  pub plain : list_all is_plain (trees_of exprs) ≡ true
 
 -- an expression of the query, its type, and what stands for it in the lowered plan
 pub record Lowered : Type 0 where

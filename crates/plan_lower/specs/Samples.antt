@@ -13,10 +13,12 @@ use Rattle.plan_dsl.specs.declared.function.FunctionIR.TheVariants.{Rechunk}
 use Rattle.plan_dsl.specs.declared.plan.SinkType.TheVariants.{Memory}
 use Rattle.plan_arena.specs.Layers.{Layer, layer}
 use Rattle.plan_arena.specs.Items.{plan_layer}
+use Rattle.plan_arena.specs.Samples.{node_at}
 use Rattle.plan_arena.specs.declared.aexpr.AExpr.{AExpr}
 use Rattle.plan_arena.specs.declared.aexpr.AExpr.TheVariants.{Column}
 use Rattle.plan_arena.specs.declared.ir.IR.{IR}
 use Rattle.plan_arena.specs.declared.plan.IRPlan.{IRPlan}
+use Rattle.plan_lower.specs.declared.conversion.step.LoweredNode.{LoweredNode}
 use Rattle.plan_lower.specs.declared.conversion.step.Step.{Step}
 use Rattle.plan_lower.specs.declared.conversion.step.Plain.TheVariants.{Cache, Sink, Slice}
 use Rattle.plan_lower.specs.declared.conversion.step.Step.TheVariants.{Function, Plain as Unexpressed}
@@ -103,6 +105,10 @@ abbrev pub ForSum : (IRPlan → Type 0) → Type 0
 ForSum Has =
     (lowering : IRPlan) → lowering.lp_top.0 ≡ 1 → lowering.expr_arena ≡ strict_items
     → map plan_layer lowering.lp_arena ≡ sum_layers → Has lowering
+
+-- the first node, which records its schema
+abbrev pub at_zero : LoweredNode
+at_zero = record { node = node_at 0; schema_node = node_at 0 }
 
 -- steps without expressions
 abbrev pub plain_steps : List Step

@@ -1,6 +1,6 @@
 -- What a plan's node does over its only input: its work and its lists, the plan that it makes of the input, and when lowered
 -- nodes stand for it.
-use Rattle.std.specs.Prelude.{◌≡◌, ℕ, List, [], ◌∷◌, ◌++◌, None, Result, OnOk, IfOk}
+use Rattle.std.specs.Prelude.{◌≡◌, ℕ, List, [], ◌∷◌, ◌++◌, None, Result, OnOk, IfOk, IfErr}
 use Rattle.std.specs.Option.{option_map}
 use Rattle.plan_types.specs.Schemas.{Columns}
 use Rattle.plan_types.specs.declared.error.PlanError.{PlanError}
@@ -19,8 +19,9 @@ use Rattle.plan_lower.specs.declared.conversion.step.Step.{Step}
 use Rattle.plan_lower.specs.declared.conversion.step.Plain.{Plain}
 use Rattle.plan_lower.specs.declared.conversion.step.Plain.TheVariants.{Cache, Rechunk, Sink, Slice}
 use Rattle.plan_lower.specs.declared.conversion.step.Step.TheVariants.{Distinct, Filter, Function, GroupBy, HStack, Plain as Unexpressed, Select, Sort}
-use Rattle.plan_lower.specs.Lowering.{IsFilterAt, Records}
-use Rattle.plan_lower.specs.Works.{IsWorkAt, IsWorkRefusal}
+use Rattle.plan_lower.specs.Lowering.{IsFilterAt, Records, columns_at}
+use Rattle.plan_lower.specs.Nodes.{KeepsExpressions}
+use Rattle.plan_lower.specs.Works.{IsPlainAt, IsPlainRefusal, IsWorkAt, IsWorkRefusal}
 
 -- what a function over a frame does, and its lists
 abbrev pub call_work : DslFunction → Work
@@ -94,3 +95,17 @@ pub record AddsStep (old new : List IR) (own : List PlanOption) (result : Result
   pub recorded : IfOk result (λ lowered. Records new lowered.schema_node.0)
   pub grows : Grows old new
   pub options : OnOk result (options_of new ≡ options_of old ++ own)
+
+-- What a step's function does over an input that records a schema, in both arenas: it answers the node that the step becomes, or
+-- says why it becomes none, and keeps what was there.
+pub record LowersStep (registry : Registry) (step : Step) (input : LoweredNode) (expressions grown : List AExpr) (old new : List IR) (result : Result LoweredNode PlanError) : Type 0 where
+  pub ok : IfOk result (λ lowered. IsStepAt registry (columns_at old input.schema_node.0) grown new lowered.node.0 input.node.0 step (columns_at new lowered.schema_node.0))
+  pub err : IfErr result (IsStepRefusal registry (columns_at old input.schema_node.0) step)
+  pub kept : KeepsExpressions expressions grown
+  pub adds : AddsStep old new (step_option step) result
+
+-- so does one of a work without expressions, which needs no arena of them, nor functions
+pub record LowersPlainly (work : Work) (lists : List (List Source)) (own : List PlanOption) (input : LoweredNode) (old new : List IR) (result : Result LoweredNode PlanError) : Type 0 where
+  pub ok : IfOk result (λ lowered. IsPlainAt (columns_at old input.schema_node.0) new lowered.node.0 input.node.0 work lists (columns_at new lowered.schema_node.0))
+  pub err : IfErr result (IsPlainRefusal (columns_at old input.schema_node.0) work lists)
+  pub adds : AddsStep old new own result

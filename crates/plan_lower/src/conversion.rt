@@ -17,3 +17,4 @@ mod projection;
 mod put_copy;
 mod sorts;
 mod step;
+mod top_numbers;

@@ -1,12 +1,14 @@
 //! Worked examples on items of the two arenas, and on what nodes denote.
 #![tactic(auto, unfolding(crate::specs::Denotation::depth_within, crate::specs::Denotation::depth_at))]
 
-ghost use Rattle.std.specs.Prelude.{◌≡◌, ℕ, List, [], ◌∷◌, pos, neg_ℤ, codes, map, true, false, Some, None};
+ghost use Rattle.std.specs.Prelude.{◌≡◌, ℕ, List, [], ◌∷◌, pos, neg_ℤ, codes, map, true, false, Some, None, Ok, Err};
 ghost use Rattle.std.specs.List.{AllByRecursion};
+ghost use Rattle.plan_types.specs.Errors.{at_top, no_memory};
 ghost use Rattle.plan_types.specs.Types.{Integer, Untyped};
 ghost use Rattle.plan_types.specs.Values.{IntValue};
 ghost use Rattle.plan_types.specs.Schemas.{columns};
 ghost use Rattle.plan_types.specs.declared.schema.Schema.{Schema};
+ghost use Rattle.plan_types.specs.declared.error.ErrorKind.TheVariants.{Duplicate};
 ghost use Rattle.plan_types.specs.declared.dtype.CastOptions.TheVariants.{Strict, NonStrict};
 ghost use Rattle.plan_types.specs.declared.dtype.DataType.TheVariants.{Int32, UInt16};
 ghost use Rattle.plan_dsl.specs.declared.literal.LiteralValue.TheVariants.{Int, Int8, UInt64};
@@ -22,7 +24,7 @@ ghost use Rattle.plan_dsl.specs.declared.window.WindowType.TheVariants.{GroupsTo
 ghost use Rattle.plan_dsl.specs.Trees.{node, no_more, more};
 ghost use Rattle.plan_dsl.specs.Names.{FromField, FromNothing, alias_label, column_label, literal_label};
 ghost use Rattle.plan_dsl.specs.Ops.{ColumnOp, LiteralOp, BinaryOp, CastOp, LenOp, SliceOp, AliasOp, ExplodeOp, GatherOp, FilterOp, SortOp, SortByOp, WindowOp, Expression};
-ghost use Rattle.plan_dsl.specs.Plans.{FilterKind, GroupByKind, HStackKind, Named, OrderOption, ProjectionOption, RefusedKind, ScanKind, SelectKind, named, scan_op, select_op, hstack_op, group_by_op, simple_projection_op, filter_op, GroupByWork, HStackWork, OverKind, CachePass, DistinctWork, HitsOption, PassWork, RechunkPass, SelectWork, over_op, SinkPass, SliceWork, SortWork, DropKind, SimpleProjectionKind};
+ghost use Rattle.plan_dsl.specs.Plans.{FilterKind, GroupByKind, HStackKind, Named, OrderOption, ProjectionOption, RefusedKind, ScanKind, SelectKind, named, scan_op, select_op, hstack_op, group_by_op, simple_projection_op, filter_op, GroupByWork, HStackWork, OverKind, CachePass, DistinctWork, HitsOption, PassWork, RechunkPass, SelectWork, over_op, SinkPass, SliceWork, SortWork, DropKind, SimpleProjectionKind, PlanKind, expressions_of};
 ghost use Rattle.plan_dsl.specs.Samples.{Gives, GivesOfTwo, int8, int32, a, alias, b, cast_as, column, count, keep, literal, over, over_by, slice, sort_by, sum, typed_literal, way, schema_ab};
 ghost use Rattle.plan_arena.specs.declared.aexpr.AExpr.{AExpr};
 ghost use Rattle.plan_arena.specs.declared.aexpr.AExpr.TheVariants.{Column, Literal, BinaryExpr, Cast, Len, Slice, Alias, Explode, Gather, Filter as FilterBy, Sort, SortBy, Window};
@@ -36,9 +38,9 @@ ghost use Rattle.plan_arena.specs.declared.ir.IR.TheVariants.{Cache, DataFrameSc
 ghost use Rattle.plan_arena.specs.declared.plan.IRPlan.{IRPlan};
 ghost use Rattle.plan_arena.specs.Layers.{layer, op_of, inputs_of, shape_of};
 ghost use Rattle.plan_arena.specs.Denotation.{Denotes, DenotesTree, depth_at, greatest, inputs_at};
-ghost use Rattle.plan_arena.specs.Items.{expression_layer, kind_text, output_label, named_node, node_name, nodes_of, ordered, ordering, passed, plan_layer, work_text, DenoteNamed, DenotesItem, DenotesKind, DenotesPlan, Grows, HasInputs, HoldsExpression, HoldsFrom, HoldsPlan, KeepsInput, Rewired};
+ghost use Rattle.plan_arena.specs.Items.{expression_layer, first_of, kind_text, output_label, named_node, node_name, nodes_of, ordered, ordering, passed, plan_layer, work_text, DenoteNamed, DenotesItem, DenotesKind, DenotesPlan, Grows, HasInputs, HoldsExpression, HoldsFrom, HoldsPlan, KeepsInput, Rewired};
 ghost use Rattle.plan_arena.specs.NamedNodes.{same_named};
-ghost use Rattle.plan_arena.specs.Options.{option_of, options_of};
+ghost use Rattle.plan_arena.specs.Options.{option_of, options_of, CopiesItem};
 ghost use Rattle.plan_arena.specs.Samples.{a_at, circle, literal_at, named_at, node_at, strict_sum, sum_items, wide_a};
 
 /// The layer of an item is what it does, with its expressions' names and its schema, and the numbers of its inputs.
@@ -94,7 +96,13 @@ pub fn items_over_an_input()
         ((SortItem input by flags, []) ∷ (SliceItem input (pos 0) 0, []) ∷ (Cache input 7 2, HitsOption 2 ∷ []) ∷ (Sink input Memory, []) ∷ (MapFunction input Rechunk, []) ∷ []) }
     ensures expressions { Gives nodes_of ((GroupByKind (named_at "a" 3 ∷ named_at "a" 1 ∷ []) (named_at "a" 4 ∷ []), named_at "a" 3 ∷ named_at "a" 1 ∷ named_at "a" 4 ∷ [])
         ∷ (SelectKind (named_at "a" 3 ∷ []), named_at "a" 3 ∷ []) ∷ (OverKind (SliceWork (pos 0) 1) [], []) ∷ (ScanKind None [], []) ∷ []) }
+    ensures first { Gives (λ (kind : PlanKind (Named ℕ)). first_of (expressions_of kind)) ((GroupByKind (named_at "a" 3 ∷ named_at "a" 1 ∷ []) (named_at "a" 4 ∷ []), named_at "a" 3 ∷ named_at "a" 1 ∷ [])
+        ∷ (GroupByKind [] (named_at "a" 4 ∷ []), []) ∷ (SelectKind (named_at "a" 3 ∷ []), named_at "a" 3 ∷ []) ∷ (ScanKind None [], []) ∷ []) }
     ensures keeps { KeepsInput (layer (over_op (SliceWork (pos 0) 1) [] None) (5 ∷ [])) 5 }
+    ensures another_input { ¬ (KeepsInput (layer (over_op (SliceWork (pos 0) 1) [] None) (5 ∷ [])) 4) }
+    ensures a_recorded_schema { ¬ (KeepsInput (layer (simple_projection_op schema_ab (Some schema_ab)) (5 ∷ [])) 5) }
+    ensures a_wider_frame { ¬ (KeepsInput (layer (over_op HStackWork [] None) (5 ∷ [])) 5) }
+    ensures no_input { ¬ (KeepsInput (layer (scan_op None []) []) 5) }
 {}
 
 /// The option of an item, and those of an arena's items in the order of their numbers.
@@ -109,6 +117,9 @@ pub fn options_of_items()
         options_of (DataFrameScan None schema ∷ Select exprs (node_at 0) schema checked ∷ Filter (node_at 1) (a_at 3) ∷ GroupBy (node_at 2) exprs aggs schema true ∷ [])
         ≡ ProjectionOption checked ∷ OrderOption true ∷ [] }
     ensures nothing { options_of [] ≡ [] }
+    ensures copy { CopiesItem (Cache (node_at 5) 7 2) (Ok (Cache (node_at 5) 7 2)) }
+    ensures no_copies { AllByRecursion (λ result. ¬ (CopiesItem (Cache (node_at 5) 7 2) result)) (Ok (Cache (node_at 4) 7 2) ∷ Ok (Cache (node_at 5) 7 0) ∷ Err (at_top Duplicate) ∷ []) }
+    ensures no_copy { CopiesItem (Cache (node_at 5) 7 2) (Err no_memory) }
 {}
 
 /// The name that an item keeps, with what it comes from.

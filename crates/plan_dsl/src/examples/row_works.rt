@@ -1,6 +1,6 @@
 //! Nodes that give some or all of their input's rows: slices, sorts, distinct rows, and rows that are passed on.
 
-ghost use Rattle.std.specs.Prelude.{◌≡◌, Bool, List, [], ◌∷◌, map, pos, negsuc, codes, true, false, Some, None, Ok, Err};
+ghost use Rattle.std.specs.Prelude.{◌≡◌, ℕ, Bool, List, [], ◌∷◌, map, pos, negsuc, codes, true, false, Some, None, Ok, Err};
 ghost use Rattle.plan_types.specs.Types.{NullType, Truth, TextType, ListType};
 ghost use Rattle.plan_types.specs.Values.{Val};
 ghost use Rattle.plan_types.specs.Outcomes.{Done, Fault, Stuck};
@@ -12,7 +12,7 @@ ghost use Rattle.plan_dsl.specs.Sources.{Source, written};
 ghost use Rattle.plan_dsl.specs.PlanRules.{type_kinds, all_type_kinds, subset_kinds, work_kinds, own_kinds, schema_by, keeps_schema};
 ghost use Rattle.plan_dsl.specs.PlanKernels.{Evaluated, gives_nothing, work_frame, over_frame, with_rows, subset_keys};
 ghost use Rattle.plan_dsl.specs.PlanMeaning.{by_meaning};
-ghost use Rattle.plan_dsl.specs.SortFlags.{count_of, keys_served, each_served, flags_served, sort_flags};
+ghost use Rattle.plan_dsl.specs.SortFlags.{both_served, count_of, key_counts, keys_served, each_served, flags_served, sort_flags};
 ghost use Rattle.plan_dsl.specs.Resolving.{expanded_lists, expanded_kind};
 ghost use Rattle.plan_dsl.specs.Samples.{Gives, GivesOfTwo, GivesAll, int8, int64, struct_type, a, b, c, one, column, all, all_names, columns_named, columns_of_type, columns_at, nth, root, source_alias, one_value, many_values, of_many, frame_with, number, null, text, table, keyed, schema_ab, schema_kv};
 
@@ -94,13 +94,17 @@ pub fn flags_of_sorts()
         × Gives (keys_served schema_ab) (
         ([], []) ∷ (all ∷ [], 2 ∷ []) ∷ (written a ∷ all ∷ [], 1 ∷ 2 ∷ []) ∷ (columns_named ("a" ∷ "b" ∷ []) ∷ [], 1 ∷ 1 ∷ []) ∷ (columns_named [] ∷ [], []) ∷
         (columns_named ("a" ∷ "b" ∷ "a" ∷ []) ∷ written a ∷ [], 3 ∷ 1 ∷ []) ∷ (source_alias "x" (columns_named ("a" ∷ "b" ∷ [])) ∷ [], 2 ∷ []) ∷
-        (columns_of_type int64 ∷ written b ∷ [], 0 ∷ 1 ∷ []) ∷ (columns_at (pos 2 ∷ []) ∷ [], 0 ∷ []) ∷ []) }
+        (columns_of_type int64 ∷ written b ∷ [], 0 ∷ 1 ∷ []) ∷ (columns_at (pos 2 ∷ []) ∷ [], 0 ∷ []) ∷ [])
+        × Gives (key_counts schema_ab) (([], []) ∷ (all ∷ written a ∷ [], 2 ∷ 1 ∷ []) ∷ (columns_named ("a" ∷ "b" ∷ []) ∷ [], 2 ∷ []) ∷ (columns_at (pos 2 ∷ []) ∷ [], 0 ∷ []) ∷ []) }
     ensures served { GivesOfTwo each_served (
         (2 ∷ 1 ∷ [], true ∷ false ∷ [], true ∷ true ∷ false ∷ []) ∷ (0 ∷ 2 ∷ [], true ∷ false ∷ [], false ∷ false ∷ []) ∷ ([], [], []) ∷ (1 ∷ [], [], []) ∷ ([], true ∷ [], []) ∷ [])
         × GivesOfTwo flags_served (
         (2 ∷ 1 ∷ [], true ∷ false ∷ [], Ok (true ∷ true ∷ false ∷ [])) ∷ (2 ∷ 1 ∷ [], true ∷ [], Ok (true ∷ [])) ∷ (2 ∷ 1 ∷ [], [], Err (ComputeError ∷ [])) ∷
         (2 ∷ 1 ∷ [], true ∷ false ∷ true ∷ [], Err (ComputeError ∷ [])) ∷ (3 ∷ [], true ∷ [], Ok (true ∷ [])) ∷ (0 ∷ 0 ∷ [], true ∷ false ∷ [], Ok []) ∷
         ([], [], Ok []) ∷ ([], true ∷ [], Ok (true ∷ [])) ∷ ([], true ∷ false ∷ [], Err (ComputeError ∷ [])) ∷ []) }
+    ensures both { Gives (λ (case : List ℕ × List Bool × List Bool). both_served case.0 case.1 case.2) (
+        ((2 ∷ 1 ∷ [], true ∷ false ∷ [], false ∷ []), Ok (true ∷ true ∷ false ∷ [], false ∷ [])) ∷ ((1 ∷ [], true ∷ false ∷ [], true ∷ []), Err (ComputeError ∷ [])) ∷
+        ((1 ∷ [], true ∷ [], []), Err (ComputeError ∷ [])) ∷ []) }
     ensures flags { Gives (λ (case : List Source × List Bool × List Bool). sort_flags schema_ab case.0 case.1 case.2) (
         ((all ∷ written a ∷ [], true ∷ false ∷ [], false ∷ []), Ok (true ∷ true ∷ false ∷ [], false ∷ [])) ∷ ((all ∷ written a ∷ [], true ∷ [], false ∷ true ∷ []), Ok (true ∷ [], false ∷ false ∷ true ∷ [])) ∷
         ((columns_of_type int64 ∷ written b ∷ [], true ∷ false ∷ [], false ∷ true ∷ []), Ok (false ∷ [], true ∷ [])) ∷

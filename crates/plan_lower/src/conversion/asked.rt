@@ -10,3 +10,13 @@ pub(crate) enum Asked {
     TruthValue,
     Order,
 }
+
+impl Asked {
+    /// Room for the columns that are made of so many expressions.
+    pub(crate) fn room(self, count: usize) -> usize {
+        match self {
+            Asked::NewName(_) => count,
+            Asked::TruthValue | Asked::Order => 0,
+        }
+    }
+}

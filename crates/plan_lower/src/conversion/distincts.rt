@@ -5,9 +5,9 @@ ghost use Rattle.plan_types.specs.Schemas.{columns};
 ghost use Rattle.plan_dsl.specs.Expressions.{selector_trees};
 ghost use Rattle.plan_dsl.specs.Plans.{DistinctWork, OrderOption, column_names, subset_lists};
 ghost use Rattle.plan_dsl.specs.declared.distinct_options.UniqueKeepStrategy.{UniqueKeepStrategy};
-ghost use Rattle.plan_lower.specs.Lowering.{Records, columns_at};
-ghost use Rattle.plan_lower.specs.Steps.{AddsStep};
-ghost use Rattle.plan_lower.specs.Works.{IsPlain, IsPlainAt, IsPlainRefusal};
+ghost use Rattle.plan_lower.specs.Lowering.{Records};
+ghost use Rattle.plan_lower.specs.Steps.{LowersPlainly};
+ghost use Rattle.plan_lower.specs.Works.{IsPlain, IsPlainRefusal};
 
 use crate::conversion::drops::has_each;
 use crate::conversion::nodes::recorded_schema;
@@ -29,10 +29,8 @@ pub(crate) fn lower_distinct(
     lp_arena: &mut Arena<IR>,
 ) -> Result<LoweredNode, PlanError>
     requires { Records lp_arena.old input.schema_node.0 }
-    ensures ok { IfOk result (λ lowered. IsPlainAt (columns_at lp_arena.old input.schema_node.0) lp_arena.new
-        lowered.node.0 input.node.0 (DistinctWork options.keep_strategy None) (subset_lists (option_map selector_trees options.subset)) (columns_at lp_arena.new lowered.schema_node.0)) }
-    ensures err { IfErr result (IsPlainRefusal (columns_at lp_arena.old input.schema_node.0) (DistinctWork options.keep_strategy None) (subset_lists (option_map selector_trees options.subset))) }
-    ensures adds { AddsStep lp_arena.old lp_arena.new (OrderOption options.maintain_order ∷ []) result }
+    ensures { LowersPlainly (DistinctWork options.keep_strategy None) (subset_lists (option_map selector_trees options.subset)) (OrderOption options.maintain_order ∷ [])
+        input lp_arena.old lp_arena.new result }
 {
     let schema = recorded_schema(lp_arena, input.schema_node);
     let options = options_over(options, schema, lp_arena.allocator())?;

@@ -6,7 +6,6 @@ ghost use Rattle.plan_types.specs.Errors.{IsMemoryOr, no_memory};
 ghost use Rattle.plan_dsl.specs.Aliases.{all_pruned, chained, pruned, spelled};
 ghost use Rattle.plan_dsl.specs.Copies.{has_several};
 ghost use Rattle.plan_dsl.specs.Expressions.{order_trees, plain_tree, plain_trees, tree_of, trees_of, way_of};
-ghost use Rattle.plan_dsl.specs.Literals.{settled};
 ghost use Rattle.plan_dsl.specs.Names.{alias_label, label_of};
 ghost use Rattle.plan_dsl.specs.Ops.{Expression, FunctionOp};
 ghost use Rattle.plan_dsl.specs.Sources.{is_plain, unwritten};
@@ -15,9 +14,10 @@ ghost use Rattle.plan_arena.specs.Denotation.{Denotes, DenoteAll, DenotesTree};
 ghost use Rattle.plan_arena.specs.Items.{named_node, numbers, numbers_named, ordered, ordering, output_label, recorded, HoldsExpression, HoldsFrom, Grows};
 ghost use Rattle.plan_lower.specs.Horizontals.{IsNamedAlone, IsNamedUnder};
 ghost use Rattle.plan_lower.specs.Nodes.{IsItemOf, IsRarer, over_inputs};
-ghost use Rattle.plan_lower.specs.TopNumbers.{settled_at_top, settled_own, settles_at_top, settles_own};
+ghost use Rattle.plan_lower.specs.TopNumbers.{settled_at_top, settles_at_top};
 
 use crate::conversion::horizontals::{Chaining, first_written};
+use crate::conversion::top_numbers::{settle_at_top, settles_at_top};
 use plan_arena::aexpr::AExpr;
 use plan_arena::aggregate::IRAggExpr;
 use plan_arena::arena::{Arena, Node};
@@ -25,9 +25,7 @@ use plan_arena::expr_ir::{ExprIR, ExprIRs, OutputName};
 use plan_arena::inputs::NodeList;
 use plan_dsl::expr::{Expr, Exprs};
 use plan_dsl::function_expr::FunctionExpr;
-use plan_dsl::literal::LiteralValue;
 use plan_dsl::sort_options::SortOptions;
-use plan_types::common_type::materialize_dyn_int;
 use plan_types::error::{ErrorKind, PlanError};
 use plan_types::text::PlSmallStr;
 use std::alloc::Global;
@@ -195,61 +193,6 @@ fn first_alias(expr: &Expr) -> Option<&PlSmallStr>
         | Expr::Selector(_)
         | Expr::KeepName(_)
         | Expr::RenameAlias { .. } => None,
-    }
-}
-
-// Whether a number without a type at the top, or directly under an alias there, has one alone.
-fn settles_at_top(expr: &Expr) -> bool
-    ensures { result ≡ settles_at_top (plain_tree expr.now) }
-{
-    match expr {
-        Expr::Alias(expr, _) => settles_own(expr),
-        _ => settles_own(expr),
-    }
-}
-
-// Whether a number without a type at the top has one alone.
-fn settles_own(expr: &Expr) -> bool
-    ensures { result ≡ settles_own (plain_tree expr.now) }
-{
-    match expr {
-        Expr::Literal(LiteralValue::Int(number)) => materialize_dyn_int(*number).is_some(),
-        _ => true,
-    }
-}
-
-// Makes of an expression what is added by itself: a number without a type at the top, or directly under an alias there,
-// gets the one that it has alone.
-fn settle_at_top(expr: &mut Expr)
-    ensures settled { plain_tree expr.new ≡ settled_at_top (plain_tree expr.old) }
-    ensures plain { is_plain (tree_of expr.new) ≡ is_plain (tree_of expr.old) }
-{
-    match expr {
-        Expr::Alias(expr, _) => settle_own(expr),
-        _ => settle_own(expr),
-    }
-}
-
-// A number without a type at the top, but not under an alias, gets the one that it has alone.
-fn settle_own(expr: &mut Expr)
-    ensures settled { plain_tree expr.new ≡ settled_own (plain_tree expr.old) }
-    ensures plain { is_plain (tree_of expr.new) ≡ is_plain (tree_of expr.old) }
-{
-    match expr {
-        Expr::Literal(value) => value.settle(),
-        _ => {}
-    }
-}
-
-/// Makes of an expression what a plan's node takes: a number without a type at its top, maybe under aliases, gets the
-/// one that it has alone.
-pub(crate) fn settle(expr: &mut Expr)
-    ensures settled { plain_tree expr.new ≡ settled (plain_tree expr.old) }
-    ensures plain { is_plain (tree_of expr.new) ≡ is_plain (tree_of expr.old) }
-{
-    match expr {
-        Expr::Alias(expr, _) => settle(expr),
-        _ => settle_own(expr),
     }
 }
 

@@ -1,10 +1,9 @@
 //! Functions over plans as nodes.
-ghost use Rattle.std.specs.Prelude.{[], ◌∷◌, IfOk, IfErr};
+ghost use Rattle.std.specs.Prelude.{[], ◌∷◌};
 ghost use Rattle.plan_dsl.specs.Expressions.{selector_trees};
 ghost use Rattle.plan_dsl.specs.Plans.{DropWork};
-ghost use Rattle.plan_lower.specs.Lowering.{Records, columns_at};
-ghost use Rattle.plan_lower.specs.Steps.{AddsStep, call_lists, call_work};
-ghost use Rattle.plan_lower.specs.Works.{IsPlainAt, IsPlainRefusal};
+ghost use Rattle.plan_lower.specs.Lowering.{Records};
+ghost use Rattle.plan_lower.specs.Steps.{LowersPlainly, call_lists, call_work};
 
 use crate::conversion::drops::columns_left;
 use crate::conversion::nodes::{input_of, recorded_schema};
@@ -22,10 +21,7 @@ pub(crate) fn lower_function(
     lp_arena: &mut Arena<IR>,
 ) -> Result<LoweredNode, PlanError>
     requires { Records lp_arena.old input.schema_node.0 }
-    ensures ok { IfOk result (λ lowered. IsPlainAt (columns_at lp_arena.old input.schema_node.0) lp_arena.new
-        lowered.node.0 input.node.0 (call_work function) (call_lists function) (columns_at lp_arena.new lowered.schema_node.0)) }
-    ensures err { IfErr result (IsPlainRefusal (columns_at lp_arena.old input.schema_node.0) (call_work function) (call_lists function)) }
-    ensures adds { AddsStep lp_arena.old lp_arena.new [] result }
+    ensures { LowersPlainly (call_work function) (call_lists function) [] input lp_arena.old lp_arena.new result }
 {
     match function {
         DslFunction::Drop(function) => lower_drop(input, function, lp_arena),
@@ -42,10 +38,7 @@ fn lower_drop(
     lp_arena: &mut Arena<IR>,
 ) -> Result<LoweredNode, PlanError>
     requires { Records lp_arena.old input.schema_node.0 }
-    ensures ok { IfOk result (λ lowered. IsPlainAt (columns_at lp_arena.old input.schema_node.0) lp_arena.new
-        lowered.node.0 input.node.0 (DropWork function.strict) (selector_trees function.to_drop ∷ []) (columns_at lp_arena.new lowered.schema_node.0)) }
-    ensures err { IfErr result (IsPlainRefusal (columns_at lp_arena.old input.schema_node.0) (DropWork function.strict) (selector_trees function.to_drop ∷ [])) }
-    ensures adds { AddsStep lp_arena.old lp_arena.new [] result }
+    ensures { LowersPlainly (DropWork function.strict) (selector_trees function.to_drop ∷ []) [] input lp_arena.old lp_arena.new result }
 {
     let schema = recorded_schema(lp_arena, input.schema_node);
     let columns = columns_left(lp_arena.allocator(), function, schema)?;

@@ -1,7 +1,7 @@
 //! The keys and aggregates of a group-by, lowered together.
-ghost use Rattle.std.specs.Prelude.{◌≡◌, ◌++◌, ℕ, List, true, Ok, IfOk, IfErr, map};
+ghost use Rattle.std.specs.Prelude.{◌≡◌, ◌++◌, ℕ, List, true, IfOk, IfErr, map};
 ghost use Rattle.std.specs.List.{AllByRecursion, list_all};
-ghost use Rattle.plan_types.specs.Errors.{no_memory, IsMemoryOr};
+ghost use Rattle.plan_types.specs.Errors.{IsMemoryOr};
 ghost use Rattle.plan_types.specs.Schemas.{columns, names_of, repeats};
 ghost use Rattle.plan_dsl.specs.Expansion.{expansions, key_names};
 ghost use Rattle.plan_dsl.specs.Expressions.{plain_trees, trees_of};
@@ -13,6 +13,7 @@ ghost use Rattle.plan_infer.specs.KeptTypes.{AllKept, IsKept, IsRight};
 ghost use Rattle.plan_expand.specs.Refusals.{IsUnexpanded};
 ghost use Rattle.plan_lower.specs.Groups.{HasAggregates, HasExpandedGroups, HasGroups, IsAggregateRefusal, IsGroupRefusal, IsUngrouped, named_in_groups};
 ghost use Rattle.plan_lower.specs.Nodes.{KeepsExpressions};
+ghost use Rattle.plan_lower.specs.Outputs.{AreExpandedTo};
 
 use crate::conversion::asked::Asked;
 use crate::conversion::coercion::coerce_all;
@@ -65,8 +66,7 @@ fn expanded_beside(
     udfs: &Udfs,
     alloc: Global,
 ) -> Result<Exprs, PlanError>
-    ensures ok { IfOk result (λ others. expansions (key_names (trees_of keys.now)) (columns schema.now) (trees_of aggs) ≡ Ok (plain_trees others)) }
-    ensures plain { IfOk result (λ others. list_all is_plain (trees_of others) ≡ true) }
+    ensures ok { IfOk result (AreExpandedTo (key_names (trees_of keys.now)) (columns schema.now) (trees_of aggs)) }
     ensures err { IfErr result (IsUnexpanded (expansions (key_names (trees_of keys.now)) (columns schema.now) (trees_of aggs))) }
 {
     let items = rewrite_projections(alloc, aggs.items, schema, keys.items.as_slice(), udfs)?;

@@ -1,17 +1,13 @@
 //! Plan nodes over an input that is lowered.
-ghost use Rattle.std.specs.Prelude.{◌≡◌, ◌<◌, [], ◌∷◌, map, OnOk, IfOk, IfErr};
+ghost use Rattle.std.specs.Prelude.{◌≡◌, ◌<◌, map, OnOk, IfOk, IfErr};
 ghost use Rattle.plan_types.specs.Errors.{no_memory};
 ghost use Rattle.plan_types.specs.Schemas.{columns};
-ghost use Rattle.plan_dsl.specs.Expressions.{tree_of, trees_of};
-ghost use Rattle.plan_dsl.specs.Plans.{FilterWork, GroupByWork, HStackWork, OrderOption, ProjectionOption, SelectWork};
 ghost use Rattle.plan_dsl.specs.PlanRules.{with_columns};
 ghost use Rattle.plan_dsl.specs.Registry.{registry};
 ghost use Rattle.plan_arena.specs.Items.{Grows, named_node};
 ghost use Rattle.plan_arena.specs.Options.{options_of};
-ghost use Rattle.plan_lower.specs.Lowering.{AreFilters, IsEmptyTableAt, IsFilterAt, Records, columns_at};
-ghost use Rattle.plan_lower.specs.Nodes.{KeepsExpressions};
-ghost use Rattle.plan_lower.specs.Steps.{AddsStep, IsStepAt, IsStepRefusal, step_option};
-ghost use Rattle.plan_lower.specs.Works.{IsWorkAt, IsWorkRefusal};
+ghost use Rattle.plan_lower.specs.Lowering.{AreFilters, IsEmptyTableAt, Records, columns_at};
+ghost use Rattle.plan_lower.specs.Steps.{LowersStep};
 
 use crate::conversion::distincts::lower_distinct;
 use crate::conversion::functions::lower_function;
@@ -51,11 +47,7 @@ pub(crate) fn lower_step(
     udfs: &Udfs,
 ) -> Result<LoweredNode, PlanError>
     requires { Records lp_arena.old input.schema_node.0 }
-    ensures ok { IfOk result (λ lowered. IsStepAt (registry udfs.now) (columns_at lp_arena.old input.schema_node.0) expr_arena.new lp_arena.new
-        lowered.node.0 input.node.0 step (columns_at lp_arena.new lowered.schema_node.0)) }
-    ensures err { IfErr result (IsStepRefusal (registry udfs.now) (columns_at lp_arena.old input.schema_node.0) step) }
-    ensures kept { KeepsExpressions expr_arena.old expr_arena.new }
-    ensures adds { AddsStep lp_arena.old lp_arena.new (step_option step) result }
+    ensures { LowersStep (registry udfs.now) step input expr_arena.old expr_arena.new lp_arena.old lp_arena.new result }
 {
     match step {
         Step::Filter(predicate) => lower_filter(input, predicate, expr_arena, lp_arena, udfs),
@@ -92,12 +84,7 @@ fn lower_filter(
     udfs: &Udfs,
 ) -> Result<LoweredNode, PlanError>
     requires { Records lp_arena.old input.schema_node.0 }
-    ensures ok { IfOk result (λ lowered. IsFilterAt (registry udfs.now) (columns_at lp_arena.old input.schema_node.0) expr_arena.new lp_arena.new
-        lowered.node.0 input.node.0 (tree_of predicate)) }
-    ensures schema { IfOk result (λ lowered. columns_at lp_arena.new lowered.schema_node.0 ≡ columns_at lp_arena.old input.schema_node.0) }
-    ensures err { IfErr result (IsWorkRefusal (registry udfs.now) (columns_at lp_arena.old input.schema_node.0) FilterWork ((tree_of predicate ∷ []) ∷ [])) }
-    ensures kept { KeepsExpressions expr_arena.old expr_arena.new }
-    ensures adds { AddsStep lp_arena.old lp_arena.new [] result }
+    ensures { LowersStep (registry udfs.now) (Step.Filter predicate) input expr_arena.old expr_arena.new lp_arena.old lp_arena.new result }
 {
     let schema = recorded_schema(lp_arena, input.schema_node);
     let predicate = lower_predicate(predicate, schema, expr_arena, udfs)?;
@@ -141,11 +128,7 @@ fn lower_select(
     udfs: &Udfs,
 ) -> Result<LoweredNode, PlanError>
     requires { Records lp_arena.old input.schema_node.0 }
-    ensures ok { IfOk result (λ lowered. IsWorkAt (registry udfs.now) (columns_at lp_arena.old input.schema_node.0) expr_arena.new lp_arena.new
-        lowered.node.0 input.node.0 SelectWork (trees_of expr ∷ []) (columns_at lp_arena.new lowered.schema_node.0)) }
-    ensures err { IfErr result (IsWorkRefusal (registry udfs.now) (columns_at lp_arena.old input.schema_node.0) SelectWork (trees_of expr ∷ [])) }
-    ensures kept { KeepsExpressions expr_arena.old expr_arena.new }
-    ensures adds { AddsStep lp_arena.old lp_arena.new (ProjectionOption options ∷ []) result }
+    ensures { LowersStep (registry udfs.now) (Step.Select expr options) input expr_arena.old expr_arena.new lp_arena.old lp_arena.new result }
 {
     let schema = recorded_schema(lp_arena, input.schema_node);
     let projection = project_strictly(expr, schema, expr_arena, udfs, ErrorKind::Duplicate)?;
@@ -172,11 +155,7 @@ fn lower_hstack(
     udfs: &Udfs,
 ) -> Result<LoweredNode, PlanError>
     requires { Records lp_arena.old input.schema_node.0 }
-    ensures ok { IfOk result (λ lowered. IsWorkAt (registry udfs.now) (columns_at lp_arena.old input.schema_node.0) expr_arena.new lp_arena.new
-        lowered.node.0 input.node.0 HStackWork (trees_of exprs ∷ []) (columns_at lp_arena.new lowered.schema_node.0)) }
-    ensures err { IfErr result (IsWorkRefusal (registry udfs.now) (columns_at lp_arena.old input.schema_node.0) HStackWork (trees_of exprs ∷ [])) }
-    ensures kept { KeepsExpressions expr_arena.old expr_arena.new }
-    ensures adds { AddsStep lp_arena.old lp_arena.new (ProjectionOption options ∷ []) result }
+    ensures { LowersStep (registry udfs.now) (Step.HStack exprs options) input expr_arena.old expr_arena.new lp_arena.old lp_arena.new result }
 {
     let before = recorded_schema(lp_arena, input.schema_node);
     let projection = project_strictly(exprs, before, expr_arena, udfs, ErrorKind::ComputeError)?;
@@ -204,11 +183,7 @@ fn lower_groups(
     udfs: &Udfs,
 ) -> Result<LoweredNode, PlanError>
     requires { Records lp_arena.old input.schema_node.0 }
-    ensures ok { IfOk result (λ lowered. IsWorkAt (registry udfs.now) (columns_at lp_arena.old input.schema_node.0) expr_arena.new lp_arena.new
-        lowered.node.0 input.node.0 GroupByWork (trees_of keys ∷ trees_of aggs ∷ []) (columns_at lp_arena.new lowered.schema_node.0)) }
-    ensures err { IfErr result (IsWorkRefusal (registry udfs.now) (columns_at lp_arena.old input.schema_node.0) GroupByWork (trees_of keys ∷ trees_of aggs ∷ [])) }
-    ensures kept { KeepsExpressions expr_arena.old expr_arena.new }
-    ensures adds { AddsStep lp_arena.old lp_arena.new (OrderOption maintain_order ∷ []) result }
+    ensures { LowersStep (registry udfs.now) (Step.GroupBy keys aggs maintain_order) input expr_arena.old expr_arena.new lp_arena.old lp_arena.new result }
 {
     let schema = recorded_schema(lp_arena, input.schema_node);
     let groups = group_strictly(keys, aggs, schema, expr_arena, udfs)?;

@@ -7,7 +7,7 @@ ghost use Rattle.plan_arena.specs.Items.{plan_layer};
 ghost use Rattle.plan_arena.specs.Layers.{layer};
 ghost use Rattle.plan_arena.specs.Options.{option_of};
 ghost use Rattle.plan_lower.specs.Lowering.{Records, columns_at};
-ghost use Rattle.plan_lower.specs.Steps.{AddsStep, plain_option, plain_work};
+ghost use Rattle.plan_lower.specs.Steps.{AddsStep, LowersPlainly, plain_option, plain_work};
 ghost use Rattle.plan_lower.specs.Works.{IsPlain, IsPlainAt};
 
 use crate::conversion::step::{LoweredNode, Plain};
@@ -26,10 +26,7 @@ pub(crate) fn lower_plain(
     lp_arena: &mut Arena<IR>,
 ) -> Result<LoweredNode, PlanError>
     requires { Records lp_arena.old input.schema_node.0 }
-    ensures ok { IfOk result (λ lowered. IsPlainAt (columns_at lp_arena.old input.schema_node.0) lp_arena.new
-        lowered.node.0 input.node.0 (plain_work plain) [] (columns_at lp_arena.new lowered.schema_node.0)) }
-    ensures err { IfErr result (λ error. error ≡ no_memory) }
-    ensures adds { AddsStep lp_arena.old lp_arena.new (plain_option plain) result }
+    ensures { LowersPlainly (plain_work plain) [] (plain_option plain) input lp_arena.old lp_arena.new result }
 {
     let item = plain_item(plain, input.node);
     let lowered = add_plain(input, item, lp_arena)?;

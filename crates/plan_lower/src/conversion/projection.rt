@@ -24,13 +24,14 @@ ghost use Rattle.plan_infer.specs.KeptTypes.{Extends, HasRightTypes, IsKept, IsR
 ghost use Rattle.plan_expand.specs.Refusals.{IsUnexpanded};
 ghost use Rattle.plan_lower.specs.Asked.{IsMemoryOrOne, asked_columns, asked_kinds};
 ghost use Rattle.plan_lower.specs.Nodes.{KeepsExpressions};
-ghost use Rattle.plan_lower.specs.Outputs.{HasExpandedOutputs, HasOutputs};
+ghost use Rattle.plan_lower.specs.Outputs.{AreExpandedTo, HasExpandedOutputs, HasOutputs};
 ghost use Rattle.plan_lower.specs.Projection.{Projects, AddsOutput, IsOutputRefusal, IsProjectionRefusal, IsUnprojected};
 
 use crate::conversion::asked::Asked;
 use crate::conversion::coercion::coerce_all;
-use crate::conversion::expr_to_ir::{Pruning, add_nodes, alias_name, settle};
+use crate::conversion::expr_to_ir::{Pruning, add_nodes, alias_name};
 use crate::conversion::horizontals::writes_no_chain;
+use crate::conversion::top_numbers::settle;
 use plan_arena::aexpr::AExpr;
 use plan_arena::arena::{Arena, Node};
 use plan_arena::expr_ir::{ExprIR, ExprIRs, OutputName};
@@ -99,8 +100,7 @@ pub(crate) fn expanded(
     udfs: &Udfs,
     alloc: Global,
 ) -> Result<Exprs, PlanError>
-    ensures ok { IfOk result (λ others. expansions [] (columns schema.now) (trees_of exprs) ≡ Ok (plain_trees others)) }
-    ensures plain { IfOk result (λ others. list_all is_plain (trees_of others) ≡ true) }
+    ensures ok { IfOk result (AreExpandedTo [] (columns schema.now) (trees_of exprs)) }
     ensures err { IfErr result (IsUnexpanded (expansions [] (columns schema.now) (trees_of exprs))) }
 {
     let items = rewrite_projections(alloc, exprs.items, schema, &[], udfs)?;
@@ -188,7 +188,7 @@ pub(crate) fn project(
 {
     let alloc = arena.allocator();
     let mut items = Vec::with_capacity(alloc, exprs.items.len())?;
-    let mut output = Schema::with_capacity(alloc, exprs.items.len())?;
+    let mut output = Schema::with_capacity(alloc, asked.room(exprs.items.len()))?;
     for expr in exprs.items {
         let expr_ir = project_one(expr, schema, arena, udfs, asked, types, &mut output)?;
         items.push(expr_ir)?;

@@ -1,5 +1,5 @@
 //! Sorts over an input that is lowered.
-ghost use Rattle.std.specs.Prelude.{◌≡◌, [], ◌∷◌, true, length, map, replicate, Ok, IfOk, IfErr, MatchOption};
+ghost use Rattle.std.specs.Prelude.{◌≡◌, [], ◌∷◌, true, length, replicate, Ok, IfOk, IfErr, MatchOption};
 ghost use Rattle.std.specs.List.{list_all};
 ghost use Rattle.plan_types.specs.Errors.{no_memory};
 ghost use Rattle.plan_types.specs.Schemas.{Columns, columns};
@@ -8,14 +8,14 @@ ghost use Rattle.plan_dsl.specs.Expressions.{plain_trees, trees_of};
 ghost use Rattle.plan_dsl.specs.Plans.{sort_work};
 ghost use Rattle.plan_dsl.specs.Registry.{registry};
 ghost use Rattle.plan_dsl.specs.Resolving.{expanded_over};
-ghost use Rattle.plan_dsl.specs.SortFlags.{each_served, flags_served, keys_served};
+ghost use Rattle.plan_dsl.specs.SortFlags.{both_served, each_served, flags_served, key_counts, keys_served};
 ghost use Rattle.plan_dsl.specs.Sources.{is_plain};
 ghost use Rattle.plan_expand.specs.Refusals.{IsUnexpanded};
-ghost use Rattle.plan_lower.specs.Lowering.{Records, columns_at};
-ghost use Rattle.plan_lower.specs.Nodes.{KeepsExpressions};
-ghost use Rattle.plan_lower.specs.Sorts.{HasKeys, both_served, falling, key_counts, nulls_behind};
-ghost use Rattle.plan_lower.specs.Steps.{AddsStep};
-ghost use Rattle.plan_lower.specs.Works.{IsWorkAt, IsWorkRefusal};
+ghost use Rattle.plan_lower.specs.Lowering.{Records};
+ghost use Rattle.plan_lower.specs.Outputs.{AreExpandedTo};
+ghost use Rattle.plan_lower.specs.Sorts.{HasKeys, falling, nulls_behind};
+ghost use Rattle.plan_lower.specs.Steps.{LowersStep};
+ghost use Rattle.plan_lower.specs.declared.conversion.step.Step.{Step};
 
 use crate::conversion::asked::Asked;
 use crate::conversion::nodes::recorded_schema;
@@ -56,11 +56,7 @@ pub(crate) fn lower_sort(
     udfs: &Udfs,
 ) -> Result<LoweredNode, PlanError>
     requires { Records lp_arena.old input.schema_node.0 }
-    ensures ok { IfOk result (λ lowered. IsWorkAt (registry udfs.now) (columns_at lp_arena.old input.schema_node.0) expr_arena.new lp_arena.new
-        lowered.node.0 input.node.0 (sort_work sort_options) (trees_of by ∷ []) (columns_at lp_arena.new lowered.schema_node.0)) }
-    ensures err { IfErr result (IsWorkRefusal (registry udfs.now) (columns_at lp_arena.old input.schema_node.0) (sort_work sort_options) (trees_of by ∷ [])) }
-    ensures kept { KeepsExpressions expr_arena.old expr_arena.new }
-    ensures adds { AddsStep lp_arena.old lp_arena.new [] result }
+    ensures { LowersStep (registry udfs.now) (Step.Sort by sort_options) input expr_arena.old expr_arena.new lp_arena.old lp_arena.new result }
 {
     let schema = recorded_schema(lp_arena, input.schema_node);
     let alloc = expr_arena.allocator();
@@ -106,8 +102,7 @@ fn expanded_keys(
     udfs: &Udfs,
     alloc: Global,
 ) -> Result<CountedKeys, PlanError>
-    ensures ok { IfOk result (λ keys. expansions [] (columns schema.now) (trees_of by) ≡ Ok (plain_trees keys.exprs)) }
-    ensures plain { IfOk result (λ keys. list_all is_plain (trees_of keys.exprs) ≡ true) }
+    ensures ok { IfOk result (λ keys. AreExpandedTo [] (columns schema.now) (trees_of by) keys.exprs) }
     ensures counts { IfOk result (λ keys. keys.counts.items ≡ keys_served (columns schema.now) (trees_of by)) }
     ensures err { IfErr result (IsUnexpanded (expansions [] (columns schema.now) (trees_of by))) }
 {
@@ -146,8 +141,7 @@ fn counted_keys(
     udfs: &Udfs,
     alloc: Global,
 ) -> Result<CountedKeys, PlanError>
-    ensures ok { IfOk result (λ keys. expansions [] (columns schema.now) (trees_of by) ≡ Ok (plain_trees keys.exprs)) }
-    ensures plain { IfOk result (λ keys. list_all is_plain (trees_of keys.exprs) ≡ true) }
+    ensures ok { IfOk result (λ keys. AreExpandedTo [] (columns schema.now) (trees_of by) keys.exprs) }
     ensures counts { IfOk result (λ keys. keys.counts.items ≡ key_counts (columns schema.now) (trees_of by)) }
     ensures err { IfErr result (IsUnexpanded (expansions [] (columns schema.now) (trees_of by))) }
 {
@@ -174,8 +168,8 @@ fn served_options(
     counts: &[usize],
     alloc: Global,
 ) -> Result<SortMultipleOptions, PlanError>
-    ensures ok { IfOk result (λ own. both_served counts.now options ≡ Ok (falling own, nulls_behind own)) }
-    ensures err { IfErr result (IsUnexpanded (both_served counts.now options)) }
+    ensures ok { IfOk result (λ own. both_served counts.now (falling options) (nulls_behind options) ≡ Ok (falling own, nulls_behind own)) }
+    ensures err { IfErr result (IsUnexpanded (both_served counts.now (falling options) (nulls_behind options))) }
 {
     let SortMultipleOptions {
         descending,

@@ -1,7 +1,6 @@
 //! Horizontals as they are lowered: written out over few operands, and else functions' nodes. Their rule is asked of nodes.
 
-ghost use Rattle.std.specs.Prelude.{◌≡◌, ◌≢◌, [], ◌∷◌, ◌++◌, List, None, Some, codes, replicate, true, false};
-ghost use Rattle.plan_types.specs.Types.{Truth};
+ghost use Rattle.std.specs.Prelude.{◌≡◌, [], ◌∷◌, ◌++◌, None, Some, codes, replicate, true, false};
 ghost use Rattle.plan_types.specs.Errors.{at_top};
 ghost use Rattle.plan_types.specs.declared.dtype.CastOptions.TheVariants.{NonStrict};
 ghost use Rattle.plan_types.specs.declared.dtype.DataType.TheVariants.{Boolean};
@@ -16,8 +15,7 @@ ghost use Rattle.plan_dsl.specs.Sources.{written};
 ghost use Rattle.plan_dsl.specs.Trees.{no_more, more};
 ghost use Rattle.plan_arena.specs.Denotation.{Denotes};
 ghost use Rattle.plan_arena.specs.Items.{HoldsFrom};
-ghost use Rattle.plan_arena.specs.declared.aexpr.AExpr.{AExpr};
-ghost use Rattle.plan_arena.specs.declared.aexpr.AExpr.TheVariants.{Alias, BinaryExpr, Cast, Column, Explode, Literal};
+ghost use Rattle.plan_arena.specs.declared.aexpr.AExpr.TheVariants.{Alias, BinaryExpr, Cast, Column, Literal};
 ghost use Rattle.plan_arena.specs.declared.expr_ir.OutputName.{OutputName};
 ghost use Rattle.plan_arena.specs.Samples.{node_at};
 ghost use Rattle.plan_infer.specs.Samples.{int8, one_column, a, b, c, a_items};

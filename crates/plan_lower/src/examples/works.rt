@@ -1,17 +1,22 @@
 //! Nodes over one input, whatever they do: what their lists, names and schemas are, and why one isn't lowered.
 
-ghost use Rattle.std.specs.Prelude.{◌≡◌, List, [], ◌∷◌, map, pos, codes, true, false, Some, None};
+ghost use Rattle.std.specs.Prelude.{◌≡◌, List, [], ◌∷◌, map, pos, codes, true, false, Some, None, Ok, Err};
 ghost use Rattle.plan_types.specs.Errors.{no_memory, at_top};
 ghost use Rattle.plan_types.specs.declared.error.ErrorKind.TheVariants.{ColumnNotFound, ComputeError, Duplicate};
-ghost use Rattle.plan_dsl.specs.Plans.{CachePass, DropWork, FilterWork, GroupByWork, HStackWork, HitsOption, PassWork, RechunkPass, SelectWork, SimpleProjectionWork, SinkPass, SliceWork, named, over_op};
+ghost use Rattle.plan_dsl.specs.Plans.{CachePass, DistinctWork, DropWork, FilterWork, GroupByWork, HStackWork, HitsOption, OrderOption, PassWork, RechunkPass, SelectWork, SimpleProjectionWork, SinkPass, SliceWork, Work, named, over_op};
+ghost use Rattle.plan_dsl.specs.declared.distinct_options.UniqueKeepStrategy.TheVariants.{First, Last};
+ghost use Rattle.plan_dsl.specs.declared.sort_options.SortMultipleOptions.{SortMultipleOptions};
 ghost use Rattle.plan_dsl.specs.Samples.{all, nth, root};
 ghost use Rattle.plan_dsl.specs.Sources.{written};
 ghost use Rattle.plan_arena.specs.Layers.{layer};
+ghost use Rattle.plan_arena.specs.declared.aexpr.AExpr.TheVariants.{Len};
 ghost use Rattle.plan_arena.specs.declared.ir.IR.{IR};
-ghost use Rattle.plan_lower.specs.Steps.{step_lists, step_option, step_work};
-ghost use Rattle.plan_lower.specs.Works.{AreUnbroken, IsPlainAt, IsPlainRefusal, IsWorkRefusal, lowered_lists, lowered_names, lowered_output, recorded_of, source_lists, unbroken_schema};
+ghost use Rattle.plan_lower.specs.Sorts.{HasKeys, falling, nulls_behind};
+ghost use Rattle.plan_lower.specs.declared.conversion.step.Step.{Step};
+ghost use Rattle.plan_lower.specs.Steps.{LowersPlainly, LowersStep, step_lists, step_option, step_work};
+ghost use Rattle.plan_lower.specs.Works.{AreUnbroken, IsPlain, IsPlainAt, IsPlainRefusal, IsWorkRefusal, lowered_lists, lowered_names, lowered_output, recorded_of, source_lists, unbroken_schema};
 ghost use Rattle.plan_infer.specs.Samples.{int8, int32, one_column, two_columns, a, b};
-ghost use Rattle.plan_lower.specs.Samples.{ForPlans, alone, as_it_is, grouped_columns, plain_steps as plain, scan_layer};
+ghost use Rattle.plan_lower.specs.Samples.{ForPlans, alone, as_it_is, at_zero, grouped_columns, plain_steps as plain, scan_layer};
 
 /// The lists of a group-by, their names and columns, and what a node records of its schema.
 pub fn lists_of_works()
@@ -50,8 +55,32 @@ pub fn plain_nodes()
         IsPlainAt two_columns plans 1 0 (SliceWork (pos 1) 2) [] two_columns) }
     ensures cache { ForPlans (scan_layer (Some 0) two_columns ∷ layer (over_op (PassWork (CachePass 7)) [] None) (0 ∷ []) ∷ []) (λ plans.
         IsPlainAt two_columns plans 1 0 (PassWork (CachePass 7)) [] two_columns) }
-    ensures sink { ForPlans (scan_layer (Some 0) two_columns ∷ layer (over_op (PassWork SinkPass) [] None) (0 ∷ []) ∷ []) (λ plans.
-        IsPlainAt two_columns plans 1 0 (PassWork SinkPass) [] two_columns) }
     ensures other_schema { (plans : List IR) → ¬ (IsPlainAt two_columns plans 1 0 (PassWork SinkPass) [] (one_column int8)) }
     ensures refused { IsPlainRefusal two_columns (SliceWork (pos 1) 2) [] no_memory }
+{}
+
+/// Works that are resolved to one without expressions, which keeps the schema that it stands over.
+pub fn plain_works()
+    ensures distinct { IsPlain two_columns (DistinctWork First None) ((root (written b) ∷ []) ∷ []) (DistinctWork First (Some (codes "b" ∷ []))) }
+    ensures other_strategy { ¬ (IsPlain two_columns (DistinctWork First None) [] (DistinctWork Last None)) }
+    ensures absent { ¬ (IsPlain (one_column int8) (DistinctWork First None) ((root (written b) ∷ []) ∷ []) (DistinctWork First (Some (codes "b" ∷ [])))) }
+    ensures with_an_expression { ¬ (IsPlain two_columns FilterWork ((written a ∷ []) ∷ []) FilterWork) }
+    ensures fewer_columns { ¬ (IsPlain two_columns (DropWork true) ((root (written b) ∷ []) ∷ []) (SimpleProjectionWork (one_column int8))) }
+{}
+
+/// What a sort's expressions are expanded to, with flags for the keys.
+pub fn keys_of_sorts()
+    ensures keys { (options own : SortMultipleOptions) → falling options ≡ true ∷ false ∷ [] → nulls_behind options ≡ false ∷ [] → falling own ≡ true ∷ true ∷ false ∷ [] → nulls_behind own ≡ false ∷ [] →
+        HasKeys two_columns (all ∷ written a ∷ []) options (a ∷ b ∷ a ∷ []) own }
+    ensures a_flag_too_many { (options own : SortMultipleOptions) → falling options ≡ true ∷ false ∷ [] → nulls_behind options ≡ false ∷ [] →
+        ¬ (HasKeys two_columns (written a ∷ []) options (a ∷ []) own) }
+    ensures other_keys { (options own : SortMultipleOptions) → ¬ (HasKeys two_columns (written a ∷ []) options (b ∷ a ∷ []) own) }
+{}
+
+/// What a step's function leaves and answers: its refusal names memory or a rule, and what was there stays.
+pub fn lowered_steps()
+    ensures memory { (work : Work) (plans : List IR) → LowersPlainly work [] [] at_zero plans plans (Err no_memory) }
+    ensures a_lost_item { (work : Work) (plans : List IR) (item : IR) → ¬ (LowersPlainly work [] [] at_zero (item ∷ plans) [] (Err no_memory)) }
+    ensures a_lost_expression { (step : Step) (plans : List IR) → ¬ (LowersStep [] step at_zero (Len ∷ []) [] plans plans (Err no_memory)) }
+    ensures another_option { (work : Work) → ¬ (LowersPlainly work [] (OrderOption true ∷ []) at_zero [] [] (Ok at_zero)) }
 {}

@@ -14,12 +14,12 @@ schema_at-requires c =
 pub lines-requires : goal.lines-requires
 lines-requires c =
     let all = denote_some c.args.plan.now.expr_arena _ (node_kind c.args.plan.now.expr_arena c.args.plan.now.lp_arena c.loop-level.node.0 c.get-item.result.now c.get-item.ensures _ _ (layer_parts (plan_layer c.get-item.result.now)) c.loop-level.invariant) in
-    first_outputs c.args.plan.now.expr_arena _ _ _ c.expressions.ensures all
+    first_outputs c.args.plan.now.expr_arena _ _ _ c.expressions.ensures.all all
 
 pub lines-requires-in-loop-level : goal.lines-requires-in-loop-level
 lines-requires-in-loop-level c =
     let all = denote_some c.args.plan.now.expr_arena _ (node_kind c.args.plan.now.expr_arena c.args.plan.now.lp_arena c.loop-level.node.0 c.get-item.result.now c.get-item.ensures _ _ (layer_parts (plan_layer c.get-item.result.now)) c.loop-level.invariant) in
-    later_outputs c.args.plan.now.expr_arena _ _ _ c.expressions.ensures all
+    later_outputs c.args.plan.now.expr_arena _ _ _ c.expressions.ensures.all all
 
 pub loop-level-preserved : goal.loop-level-preserved
 loop-level-preserved c =

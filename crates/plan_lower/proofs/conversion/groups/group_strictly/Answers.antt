@@ -12,12 +12,12 @@ use Rattle.plan_lower.proofs.conversion.groups.group_strictly.Goals as goal
 pub returns-clause-ok : goal.returns-clause-ok
 returns-clause-ok c =
     let keys = c.in_ok-keys.keys in
-    let same = written_trees keys.items.items c.in_ok-keys.ensures.plain in
+    let same = written_trees keys.items.items c.in_ok-keys.ensures.ok.plain in
     record {
       trees = plain_trees keys;
-      expanded = c.in_ok-keys.ensures.ok;
+      expanded = c.in_ok-keys.ensures.ok.trees;
       aggregates = plain_trees c.in_ok-aggs.aggs;
-      also = subst (λ (names : List Source). expansions (key_names names) (columns c.args.schema.now) (trees_of c.args.aggs) ≡ Ok (plain_trees c.in_ok-aggs.aggs)) (sym same) c.in_ok-aggs.ensures.ok;
+      also = subst (λ (names : List Source). expansions (key_names names) (columns c.args.schema.now) (trees_of c.args.aggs) ≡ Ok (plain_trees c.in_ok-aggs.aggs)) (sym same) c.in_ok-aggs.ensures.ok.trees;
       lowered = c.in_ok-groups.ensures.ok;
     }
 
@@ -28,13 +28,13 @@ returns-in_err-keys-clause-err c =
 pub returns-in_err-aggs-clause-err : goal.returns-in_err-aggs-clause-err
 returns-in_err-aggs-clause-err c =
     let keys = c.in_ok-keys.keys in
-    let same = written_trees keys.items.items c.in_ok-keys.ensures.plain in
+    let same = written_trees keys.items.items c.in_ok-keys.ensures.ok.plain in
     let refused = subst (λ (names : List Source). IsUnexpanded (expansions (key_names names) (columns c.args.schema.now) (trees_of c.args.aggs)) c.in_err-aggs.field-0.0) (sym same) c.in_err-aggs.ensures.err in
-    passed_on c.from_residual-in_err-aggs.result c.in_err-aggs.field-0.0 _ c.from_residual-in_err-aggs.ensures.1 (aggregates_unexpanded (plain_trees keys) c.in_ok-keys.ensures.ok refused)
+    passed_on c.from_residual-in_err-aggs.result c.in_err-aggs.field-0.0 _ c.from_residual-in_err-aggs.ensures.1 (aggregates_unexpanded (plain_trees keys) c.in_ok-keys.ensures.ok.trees refused)
 
 pub returns-in_err-groups-clause-err : goal.returns-in_err-groups-clause-err
 returns-in_err-groups-clause-err c =
     let keys = c.in_ok-keys.keys in
-    let same = written_trees keys.items.items c.in_ok-keys.ensures.plain in
-    let also = subst (λ (names : List Source). expansions (key_names names) (columns c.args.schema.now) (trees_of c.args.aggs) ≡ Ok (plain_trees c.in_ok-aggs.aggs)) (sym same) c.in_ok-aggs.ensures.ok in
-    passed_on c.from_residual-in_err-groups.result c.in_err-groups.field-0.0 _ c.from_residual-in_err-groups.ensures.1 (not_grouped (plain_trees keys) (plain_trees c.in_ok-aggs.aggs) c.in_ok-keys.ensures.ok also c.in_err-groups.ensures.err)
+    let same = written_trees keys.items.items c.in_ok-keys.ensures.ok.plain in
+    let also = subst (λ (names : List Source). expansions (key_names names) (columns c.args.schema.now) (trees_of c.args.aggs) ≡ Ok (plain_trees c.in_ok-aggs.aggs)) (sym same) c.in_ok-aggs.ensures.ok.trees in
+    passed_on c.from_residual-in_err-groups.result c.in_err-groups.field-0.0 _ c.from_residual-in_err-groups.ensures.1 (not_grouped (plain_trees keys) (plain_trees c.in_ok-aggs.aggs) c.in_ok-keys.ensures.ok.trees also c.in_err-groups.ensures.err)

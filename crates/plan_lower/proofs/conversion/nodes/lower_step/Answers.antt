@@ -1,19 +1,24 @@
-use Rattle.std.proofs.Common.{IfErr, sym, subst}
+use Rattle.std.proofs.Common.{sym, subst}
 use Rattle.plan_dsl.specs.Registry.{registry}
-use Rattle.plan_lower.specs.Lowering.{columns_at}
-use Rattle.plan_lower.specs.Steps.{IsStepRefusal}
+use Rattle.plan_lower.specs.Steps.{LowersStep}
 use Rattle.plan_lower.specs.declared.conversion.step.Step.{Step}
-use Rattle.plan_lower.proofs.ProjectionLemmas.{refused_as}
+use Rattle.plan_lower.proofs.AddedLemmas.{plainly_lowers}
 use Rattle.plan_lower.proofs.conversion.nodes.lower_step.Goals as goal
 
-pub returns-in-Function-clause-err : goal.returns-in-Function-clause-err
-returns-in-Function-clause-err c =
-    let r = registry c.args.udfs.now in
-    let schema = columns_at c.args.lp_arena.now c.args.input.schema_node.0 in
-    subst (λ (s : Step). IfErr c.lower_function.result (IsStepRefusal r schema s)) (sym c.in-Function.is) (refused_as c.lower_function.result _ _ (λ error refused. refused r) c.lower_function.ensures.err)
+pub returns-in-Function : goal.returns-in-Function
+returns-in-Function c =
+    let items = c.args.expr_arena.now in
+    let lowers = plainly_lowers (registry c.args.udfs.now) _ c.args.input items c.args.lp_arena.now c.lower_function.new.lp_arena c.lower_function.result (λ n columns at. at) c.lower_function.ensures in
+    subst (λ (s : Step). LowersStep (registry c.args.udfs.now) s c.args.input items items c.args.lp_arena.now c.lower_function.new.lp_arena c.lower_function.result) (sym c.in-Function.is) lowers
 
-pub returns-in-Distinct-clause-err : goal.returns-in-Distinct-clause-err
-returns-in-Distinct-clause-err c =
-    let r = registry c.args.udfs.now in
-    let schema = columns_at c.args.lp_arena.now c.args.input.schema_node.0 in
-    subst (λ (s : Step). IfErr c.lower_distinct.result (IsStepRefusal r schema s)) (sym c.in-Distinct.is) (refused_as c.lower_distinct.result _ _ (λ error refused. refused r) c.lower_distinct.ensures.err)
+pub returns-in-Distinct : goal.returns-in-Distinct
+returns-in-Distinct c =
+    let items = c.args.expr_arena.now in
+    let lowers = plainly_lowers (registry c.args.udfs.now) _ c.args.input items c.args.lp_arena.now c.lower_distinct.new.lp_arena c.lower_distinct.result (λ n columns at. at) c.lower_distinct.ensures in
+    subst (λ (s : Step). LowersStep (registry c.args.udfs.now) s c.args.input items items c.args.lp_arena.now c.lower_distinct.new.lp_arena c.lower_distinct.result) (sym c.in-Distinct.is) lowers
+
+pub returns-in-Plain : goal.returns-in-Plain
+returns-in-Plain c =
+    let items = c.args.expr_arena.now in
+    let lowers = plainly_lowers (registry c.args.udfs.now) _ c.args.input items c.args.lp_arena.now c.lower_plain.new.lp_arena c.lower_plain.result (λ n columns at. at) c.lower_plain.ensures in
+    subst (λ (s : Step). LowersStep (registry c.args.udfs.now) s c.args.input items items c.args.lp_arena.now c.lower_plain.new.lp_arena c.lower_plain.result) (sym c.in-Plain.is) lowers

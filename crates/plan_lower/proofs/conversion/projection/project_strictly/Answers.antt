@@ -9,4 +9,4 @@ returns-in_err-exprs-clause-err c =
 
 pub returns-in_err-projection-clause-err : goal.returns-in_err-projection-clause-err
 returns-in_err-projection-clause-err c =
-    passed_on c.from_residual-in_err-projection.result c.in_err-projection.field-0.0 _ c.from_residual-in_err-projection.ensures.1 (not_projected (plain_trees c.in_ok-exprs.exprs) c.in_ok-exprs.ensures.ok c.in_err-projection.ensures.err)
+    passed_on c.from_residual-in_err-projection.result c.in_err-projection.field-0.0 _ c.from_residual-in_err-projection.ensures.1 (not_projected (plain_trees c.in_ok-exprs.exprs) c.in_ok-exprs.ensures.ok.trees c.in_err-projection.ensures.err)

@@ -6,7 +6,7 @@ use Rattle.plan_dsl.specs.Expansion.{expansions}
 use Rattle.plan_dsl.specs.Expressions.{plain_tree, tree_of}
 use Rattle.plan_dsl.specs.Refusals.{joined}
 use Rattle.plan_dsl.specs.Sources.{is_plain}
-use Rattle.plan_lower.specs.Sorts.{key_counts}
+use Rattle.plan_dsl.specs.SortFlags.{key_counts}
 use Rattle.plan_lower.proofs.conversion.sorts.counted_keys.Given as goal
 
 abbrev pub invariant-loop-expr : goal.invariant-loop-expr

@@ -1,6 +1,5 @@
-use Rattle.std.proofs.Common.{[], ◌∷◌, map, subst}
+use Rattle.std.proofs.Common.{[], ◌∷◌, map, refl, subst}
 use Rattle.plan_types.specs.Schemas.{Columns, columns}
-use Rattle.plan_types.proofs.ResultLemmas.{passed_on}
 use Rattle.plan_dsl.specs.Expressions.{plain_trees, trees_of}
 use Rattle.plan_dsl.specs.Plans.{sort_work}
 use Rattle.plan_dsl.specs.Registry.{registry}
@@ -13,11 +12,13 @@ use Rattle.plan_lower.specs.Projection.{IsProjectionRefusal}
 use Rattle.plan_lower.specs.Sorts.{HasKeys}
 use Rattle.plan_lower.specs.Works.{unresolved}
 use Rattle.plan_lower.specs.declared.conversion.asked.Asked.TheVariants.{Order}
+use Rattle.plan_lower.specs.declared.conversion.step.Step.TheVariants.{Sort}
+use Rattle.plan_lower.proofs.AddedLemmas.{refused_lowers, same_grows}
 use Rattle.plan_lower.proofs.SortLemmas.{sort_at, sort_refusal}
 use Rattle.plan_lower.proofs.conversion.sorts.lower_sort.Goals as goal
 
-pub returns-clause-ok : goal.returns-clause-ok
-returns-clause-ok c =
+pub returns : goal.returns
+returns c =
     let r = registry c.args.udfs.now in
     let schema = columns_at c.args.lp_arena.now c.args.input.schema_node.0 in
     let items = c.project_asked.new.arena in
@@ -28,19 +29,26 @@ returns-clause-ok c =
     let none = columns c.in_ok-projection.projection.schema in
     let keys = subst (λ (s : Columns). HasKeys s by c.args.sort_options trees own) c.recorded_schema-schema.ensures c.in_ok-keys.ensures.ok in
     let has = subst (λ (s : Columns). HasOutputs r s Order items trees nodes none) c.recorded_schema-schema.ensures c.in_ok-projection.ensures.ok in
-    sort_at r schema by c.args.sort_options own trees keys items c.add_plain.new.lp_arena c.in_ok-lowered.lowered.node.0 c.args.input.node.0 none _ nodes has c.in_ok-lowered.ensures.schema c.in_ok-lowered.ensures.ok
+    record {
+      ok = sort_at r schema by c.args.sort_options own trees keys items c.add_plain.new.lp_arena c.in_ok-lowered.lowered.node.0 c.args.input.node.0 none _ nodes has c.in_ok-lowered.ensures.schema c.in_ok-lowered.ensures.ok;
+      err = tt;
+      kept = c.in_ok-projection.ensures.kept;
+      adds = c.in_ok-lowered.ensures.adds;
+    }
 
-pub returns-in_err-keys-clause-err : goal.returns-in_err-keys-clause-err
-returns-in_err-keys-clause-err c =
+pub returns-in_err-keys : goal.returns-in_err-keys
+returns-in_err-keys c =
+    let old = c.args.lp_arena.now in
     let unexpanded = subst (λ (s : Columns). IsUnexpanded (expanded_over s (sort_work c.args.sort_options) (trees_of c.args.by ∷ [])) c.in_err-keys.field-0.0) c.recorded_schema-schema.ensures c.in_err-keys.ensures.err in
-    passed_on c.from_residual.result c.in_err-keys.field-0.0 _ c.from_residual.ensures.1 (unresolved unexpanded)
+    refused_lowers _ (Sort c.args.by c.args.sort_options) c.args.input _ _ old old c.from_residual.result _ c.from_residual.ensures.1 (unresolved unexpanded) (λ n op inputs held. held) (same_grows old old refl)
 
-pub returns-in_err-projection-clause-err : goal.returns-in_err-projection-clause-err
-returns-in_err-projection-clause-err c =
-    let schema = columns_at c.args.lp_arena.now c.args.input.schema_node.0 in
+pub returns-in_err-projection : goal.returns-in_err-projection
+returns-in_err-projection c =
+    let old = c.args.lp_arena.now in
+    let schema = columns_at old c.args.input.schema_node.0 in
     let by = trees_of c.args.by in
     let trees = plain_trees c.in_ok-keys.keys.exprs in
     let own = c.in_ok-keys.keys.options in
     let keys = subst (λ (s : Columns). HasKeys s by c.args.sort_options trees own) c.recorded_schema-schema.ensures c.in_ok-keys.ensures.ok in
     let refused = subst (λ (s : Columns). IsProjectionRefusal (registry c.args.udfs.now) s Order trees c.in_err-projection.field-0.0) c.recorded_schema-schema.ensures c.in_err-projection.ensures.err in
-    passed_on c.from_residual-in_err-projection.result c.in_err-projection.field-0.0 _ c.from_residual-in_err-projection.ensures.1 (sort_refusal _ schema by c.args.sort_options own trees keys _ refused)
+    refused_lowers _ (Sort c.args.by c.args.sort_options) c.args.input _ _ old old c.from_residual-in_err-projection.result _ c.from_residual-in_err-projection.ensures.1 (sort_refusal _ schema by c.args.sort_options own trees keys _ refused) c.in_err-projection.ensures.kept (same_grows old old refl)

@@ -17,4 +17,4 @@ returns-clause-err c =
     let own = c.in_ok-exprs.counts-is in
     let counted = c.in_ok-exprs.ensures.counts in
     let are : c.as_slice.result.now ≡ keys_served (columns c.args.schema.now) (trees_of c.args.by) = cc in
-    flags_unserved (columns c.args.schema.now) (trees_of c.args.by) c.args.options c.as_slice.result.now _ c.in-Err.error c.in_ok-exprs.ensures.ok are c.in-Err.ensures.err
+    flags_unserved (columns c.args.schema.now) (trees_of c.args.by) c.args.options c.as_slice.result.now _ c.in-Err.error c.in_ok-exprs.ensures.ok.trees are c.in-Err.ensures.err

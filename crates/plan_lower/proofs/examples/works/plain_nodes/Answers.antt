@@ -2,10 +2,9 @@ use Rattle.std.proofs.Common.{◌≡◌, List, [], ◌∷◌, Result, Ok, pos, r
 use Rattle.plan_types.specs.declared.error.ErrorKind.{ErrorKind}
 use Rattle.plan_dsl.specs.Plans.{CachePass, PassWork, SinkPass, SliceWork, Work}
 use Rattle.plan_dsl.specs.Resolving.{resolved_work}
-use Rattle.plan_dsl.specs.declared.plan.SinkType.TheVariants.{Memory}
 use Rattle.plan_infer.specs.Samples.{int8, one_column, two_columns}
 use Rattle.plan_lower.specs.Works.{unbroken_schema, without_memory}
-use Rattle.plan_lower.specs.declared.conversion.step.Plain.TheVariants.{Cache, Sink, Slice}
+use Rattle.plan_lower.specs.declared.conversion.step.Plain.TheVariants.{Cache, Slice}
 use Rattle.plan_lower.proofs.AddedLemmas.{plain_at, plain_kept}
 use Rattle.plan_lower.proofs.ExamplePlanLemmas.{item_at}
 use Rattle.plan_lower.proofs.examples.works.plain_nodes.Goals as goal
@@ -15,9 +14,6 @@ returns-clause-slice c = λ plans is registry items. plain_at registry two_colum
 
 pub returns-clause-cache : goal.returns-clause-cache
 returns-clause-cache c = λ plans is registry items. plain_at registry two_columns two_columns items plans 1 0 (PassWork (CachePass 7)) (PassWork (CachePass 7)) [] (plain_kept two_columns (Cache 7)) refl (item_at plans _ 1 _ is refl)
-
-pub returns-clause-sink : goal.returns-clause-sink
-returns-clause-sink c = λ plans is registry items. plain_at registry two_columns two_columns items plans 1 0 (PassWork SinkPass) (PassWork SinkPass) [] (plain_kept two_columns (Sink Memory)) refl (item_at plans _ 1 _ is refl)
 
 same_work : (found : Result Work (List ErrorKind)) (work own : Work) → found ≡ Ok work → found ≡ Ok own → own ≡ work
 same_work found work own e f = cc
