@@ -17,7 +17,7 @@ fn column_of(rt: &impl Abort, alloc: Global, name: PlSmallStr, rows: usize) -> C
     Column {
         name,
         dtype: DataType::Int8,
-        values: Values { items: parts.items },
+        values: Values::from_values(parts.items),
     }
 }
 
@@ -135,11 +135,7 @@ fn another_length_is_refused(rt: HostRuntime) {
 fn misfit(rt: &impl Abort, alloc: Global, rows: usize) -> Column {
     let name = long_name(rt, alloc, 3);
     let mut column = column_of(rt, alloc, name, rows);
-    column
-        .values
-        .items
-        .push(Value::Int(128))
-        .expect(rt, NO_MEMORY);
+    column.values.push(Value::Int(128)).expect(rt, NO_MEMORY);
     column
 }
 

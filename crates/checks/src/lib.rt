@@ -57,6 +57,8 @@ mod split_filters;
 mod streams;
 pub mod sums;
 #[cfg(test)]
+mod table_functions;
+#[cfg(test)]
 mod types;
 #[cfg(test)]
 mod values;

@@ -45,8 +45,8 @@ fn flags_for(rt: &impl Abort, alloc: Global, count: usize) -> SortMultipleOption
     }
 }
 
-// Selectors of so many columns, by their names.
-fn selectors_of(rt: &impl Abort, alloc: Global, count: usize) -> Selectors {
+/// Selectors of so many columns, by their names.
+pub(crate) fn selectors_of(rt: &impl Abort, alloc: Global, count: usize) -> Selectors {
     let mut items = Vec::new(alloc);
     for number in 0..count {
         let root = Box::new(alloc, Expr::Column(numbered(rt, alloc, number)));

@@ -48,7 +48,7 @@ RefusesText registry text (BrokenPlan error) = WritesBroken registry text error
 abbrev pub rule_words : ErrorKind → Option (List ℕ)
 rule_words ColumnNotFound = Some (codes "a column is missing")
 rule_words Duplicate = Some (codes "a name stands twice")
-rule_words SchemaMismatch = Some (codes "there is no common type")
+rule_words SchemaMismatch = Some (codes "types don't match")
 rule_words InvalidOperation = Some (codes "an operation doesn't fit what it is given")
 rule_words ComputeError = Some (codes "what is asked for can't be made")
 rule_words NoMemory = None

@@ -57,7 +57,7 @@ fn rule_in_words(kind: ErrorKind) -> Result<&'static str, AllocError>
     match kind {
         ErrorKind::ColumnNotFound => Ok("a column is missing"),
         ErrorKind::Duplicate => Ok("a name stands twice"),
-        ErrorKind::SchemaMismatch => Ok("there is no common type"),
+        ErrorKind::SchemaMismatch => Ok("types don't match"),
         ErrorKind::InvalidOperation => Ok("an operation doesn't fit what it is given"),
         ErrorKind::ComputeError => Ok("what is asked for can't be made"),
         ErrorKind::NoMemory => Err(AllocError),

@@ -1,5 +1,5 @@
 //! What is at fault in a query, and where. A part of a plan is asked about by a query of its own, a select of it over the
-//! plan below. So no kind of plan or expression is told here.
+//! plan below, and a name that may stand twice by the plan with another one. So no kind of plan or expression is told here.
 
 use crate::answers::Refusal;
 use crate::check::lower_text;
@@ -7,7 +7,7 @@ use crate::lowered::{quoted, schema_at};
 use plan_dsl::udfs::Udfs;
 use plan_json::error::JsonError;
 use plan_report::report::schema_text;
-use plan_types::error::{ErrorKind, PlanError};
+use plan_types::error::{ErrorKind, Place, PlanError};
 use plan_types::schema::Schema;
 use serde_json::Value;
 use std::alloc::{AllocError, Global};
@@ -22,6 +22,17 @@ struct Asked<'a> {
     alloc: Global,
     query: &'a Value,
     udfs: &'a Udfs,
+}
+
+/// A part that is at fault: a plan, or the smallest part of one that is refused by itself for breaking a rule of that kind.
+#[derive(Drop)]
+struct Fault {
+    path: String,
+    is_plan: bool,
+    // What its operands give.
+    operands: Vec<(String, Schema)>,
+    // The names that the plan is given beside them.
+    names: Vec<String>,
 }
 
 /// By what a text has no typed plan: the value at fault where it is no query. Else the smallest part of the query that is
@@ -54,54 +65,135 @@ pub(crate) fn detail(
 impl Asked<'_> {
     // What is said of a plan that breaks a rule. Smaller parts that break one of that kind are looked for, so many at most.
     fn plan_detail(&self, error: &PlanError, parts: usize) -> Result<String, AllocError> {
-        let mut fault = String::from_str(self.alloc, "/plan")?;
-        for _step in 0..error.place.depth() {
-            fault = self.first_of(self.first_of(fault.as_str())?.as_str())?;
-        }
-        let mut left = self.parts_of(self.first_of(fault.as_str())?.as_str())?;
+        let plan = self.plan_at(&error.place)?;
+        let input = self.input_of(plan.as_str())?;
+        let input = self.text_of(input.as_str())?;
+        let fault = self.smallest(plan.as_str(), input.as_str(), error.kind, parts)?;
+        self.told(&fault, input.as_str(), error.kind)
+    }
+
+    // What is said of a part that is at fault, over a plan's text.
+    fn told(&self, fault: &Fault, input: &str, kind: ErrorKind) -> Result<String, AllocError> {
+        let part = self.shown(fault.path.as_str())?;
+        let given = self.given(fault)?;
+        let again = if fault.is_plan && kind == ErrorKind::Duplicate {
+            self.name_again(fault.path.as_str(), fault.names.as_slice())?
+        } else {
+            String::new(self.alloc)
+        };
+        let there = self.columns_of(input)?;
+        format!(in self.alloc; "  at {}: {part}\n{given}{again}{there}", fault.path)
+    }
+
+    // The smallest part of a plan over that input that breaks a rule of the kind by itself, or the plan.
+    fn smallest(
+        &self,
+        plan: &str,
+        input: &str,
+        kind: ErrorKind,
+        parts: usize,
+    ) -> Result<Fault, AllocError> {
+        let mut fault = self.fault(plan, true)?;
+        let mut left = self.parts_of(self.first_of(plan)?.as_str())?;
         // The first part is the plan below.
-        let input = self.text_of(left.pop().unwrap_or(String::new(self.alloc)).as_str())?;
-        let mut operands = Vec::new(self.alloc);
-        let mut is_plan = true;
+        drop(left.pop());
         for _part in 0..parts {
             let Some(path) = left.pop() else {
                 break;
             };
-            let part = self.text_of(path.as_str())?;
-            let select = format!(in self.alloc; "{{\"select\":[{input},[{part}]]}}")?;
-            match self.ask(select.as_str())? {
-                Ok(schema) => operands.push((path, schema))?,
+            let is_name = fault.is_plan && self.is_text(path.as_str());
+            match self.ask_over(input, path.as_str(), is_name)? {
+                Ok(_) if is_name => fault.names.push(path)?,
+                Ok(schema) => fault.operands.push((path, schema))?,
                 Err(Refusal::Text(_)) => left.append(&mut self.parts_of(path.as_str())?)?,
                 Err(Refusal::Plan(broken)) => {
-                    if broken.kind == error.kind {
+                    if broken.kind == kind {
                         left = self.parts_of(path.as_str())?;
-                        operands.clear();
-                        fault = path;
-                        is_plan = false;
+                        fault = self.fault(path.as_str(), false)?;
+                    } else if is_name {
+                        fault.names.push(path)?;
                     }
                 }
             }
         }
-        let part = self.shown(fault.as_str())?;
-        let operands = self.given(operands.as_slice(), is_plan)?;
-        let mut words = format!(in self.alloc; "  at {fault}: {part}\n{operands}")?;
-        if let Ok(schema) = self.ask(input.as_str())? {
-            let columns = schema_text(self.alloc, &schema)?;
-            write!(words, "  the columns there are {columns}\n")?;
+        Ok(fault)
+    }
+
+    // A part that is at fault, of which nothing more is known yet.
+    fn fault(&self, path: &str, is_plan: bool) -> Result<Fault, AllocError> {
+        Ok(Fault {
+            path: String::from_str(self.alloc, path)?,
+            is_plan,
+            operands: Vec::new(self.alloc),
+            names: Vec::new(self.alloc),
+        })
+    }
+
+    // What a select of a part over a plan's text is answered: of the part itself, and of a name of the column of that name.
+    fn ask_over(
+        &self,
+        input: &str,
+        path: &str,
+        is_name: bool,
+    ) -> Result<Result<Schema, Refusal>, AllocError> {
+        let part = self.text_of(path)?;
+        let select = if is_name {
+            format!(in self.alloc; "{{\"select\":[{input},[{{\"col\":{part}}}]]}}")?
+        } else {
+            format!(in self.alloc; "{{\"select\":[{input},[{part}]]}}")?
+        };
+        self.ask(select.as_str())
+    }
+
+    // A line for the first of some names of a plan that stands twice: one in whose place another name makes a column of the
+    // plan's frame. That other name is the text of the whole query, in which no name is as long.
+    fn name_again(&self, plan: &str, names: &[String]) -> Result<String, AllocError> {
+        let other = self.text_of("")?;
+        for path in names {
+            let changed = self.text_with(plan, path.as_str(), other.as_str())?;
+            if let Ok(schema) = self.ask(changed.as_str())?
+                && schema
+                    .iter_names()
+                    .any(|name| name.as_str() == other.as_str())
+            {
+                let name = self.text_of(path.as_str())?;
+                return format!(in self.alloc; "  {name} stands twice\n");
+            }
         }
-        Ok(words)
+        Ok(String::new(self.alloc))
+    }
+
+    // The text of a plan with another name at the path.
+    fn text_with(&self, plan: &str, path: &str, name: &str) -> Result<String, AllocError> {
+        let mut query = self.query.clone()?;
+        if let Some(place) = query.pointer_mut(path) {
+            *place = Value::try_from_str(self.alloc, name)?;
+        }
+        let changed = query.pointer(plan).unwrap_or(&Value::Null);
+        changed.to_string(self.alloc)
+    }
+
+    // A line for the columns that a plan's text gives, where it gives some.
+    fn columns_of(&self, plan: &str) -> Result<String, AllocError> {
+        match self.ask(plan)? {
+            Ok(schema) => {
+                let columns = schema_text(self.alloc, &schema)?;
+                format!(in self.alloc; "  the columns there are {columns}\n")
+            }
+            Err(_) => Ok(String::new(self.alloc)),
+        }
     }
 
     // A line for what each operand gives, and behind it, of operands of a plan, one for each name that comes again.
-    fn given(&self, operands: &[(String, Schema)], is_plan: bool) -> Result<String, AllocError> {
+    fn given(&self, fault: &Fault) -> Result<String, AllocError> {
         let mut words = String::new(self.alloc);
         let mut names = Vec::new(self.alloc);
-        for (path, schema) in operands {
+        for (path, schema) in fault.operands.as_slice() {
             let columns = schema_text(self.alloc, schema)?;
             let part = self.shown(path.as_str())?;
             write!(words, "  {path} gives {columns}: {part}\n")?;
             for name in schema.iter_names() {
-                if is_plan && names.contains(&name) {
+                if fault.is_plan && names.contains(&name) {
                     let name = quoted(self.alloc, name.as_str())?;
                     write!(words, "  {name} stands twice\n")?;
                 }
@@ -146,7 +238,30 @@ impl Asked<'_> {
         Ok(parts)
     }
 
-    // The first part of a value that has one: of a plan the list of its key, and of that the plan below.
+    // The path of the plan at a place.
+    fn plan_at(&self, place: &Place) -> Result<String, AllocError> {
+        let mut plan = String::from_str(self.alloc, "/plan")?;
+        for _step in 0..place.depth() {
+            plan = self.input_of(plan.as_str())?;
+        }
+        Ok(plan)
+    }
+
+    // The plan below a plan: what stands under its key, or the first item of the list there.
+    fn input_of(&self, plan: &str) -> Result<String, AllocError> {
+        let path = self.first_of(plan)?;
+        match self.query.pointer(path.as_str()) {
+            Some(Value::Array(_)) => self.first_of(path.as_str()),
+            _ => Ok(path),
+        }
+    }
+
+    // Whether a part is a text.
+    fn is_text(&self, path: &str) -> bool {
+        matches!(self.query.pointer(path), Some(Value::String(_)))
+    }
+
+    // The first part of a value that has one: of a plan what stands under its key.
     fn first_of(&self, path: &str) -> Result<String, AllocError> {
         Ok(
             self.parts_of(path)?

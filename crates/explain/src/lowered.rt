@@ -11,17 +11,19 @@ use plan_arena::expr_ir::ExprIR;
 use plan_arena::ir::IR;
 use plan_arena::plan::IRPlan;
 use plan_dsl::aggregate::GroupByMethod;
-use plan_dsl::distinct_options::{DistinctOptionsIR, UniqueKeepStrategy};
+use plan_dsl::distinct_options::{ColumnNames, DistinctOptionsIR, UniqueKeepStrategy};
 use plan_dsl::function::FunctionIR;
 use plan_dsl::function_expr::FunctionExpr;
 use plan_dsl::literal::LiteralValue;
 use plan_dsl::sort_options::SortOptions;
 use plan_dsl::udfs::Udfs;
+use plan_dsl::unpivot_args::UnpivotArgsIR;
 use plan_infer::aexpr_field::AExprTyping;
 use plan_infer::field::Context;
 use plan_report::report::dtype_text;
 use plan_types::dtype::CastOptions;
 use plan_types::schema::Schema;
+use plan_types::text::PlSmallStr;
 use serde_json::Value;
 use std::alloc::{AllocError, Global};
 use std::fmt::Write;
@@ -138,10 +140,9 @@ fn options_line(alloc: Global, item: &IR) -> Result<String, AllocError> {
     match item {
         IR::Cache { id, .. } => format!(in alloc; "    id {id}\n"),
         IR::Distinct { options, .. } => distinct_line(alloc, options),
-        IR::MapFunction {
-            function: FunctionIR::Rechunk,
-            ..
-        } => String::from_str(alloc, "    rechunk\n"),
+        IR::MapFunction { function, .. } => {
+            format!(in alloc; "    {}\n", function_words(alloc, function)?)
+        }
         IR::Slice { offset, len, .. } => format!(in alloc; "    offset {offset}, length {len}\n"),
         IR::Sort { sort_options, .. } => {
             let descending = sort_options.descending.items.as_slice();
@@ -163,14 +164,71 @@ fn distinct_line(alloc: Global, options: &DistinctOptionsIR) -> Result<String, A
     let Some(subset) = &options.subset else {
         return format!(in alloc; "    keep {keep}\n");
     };
+    format!(in alloc; "    keep {keep} by {}\n", columns_words(alloc, subset)?)
+}
+
+// What a function does, and with which columns and names.
+fn function_words(alloc: Global, function: &FunctionIR) -> Result<String, AllocError> {
+    match function {
+        FunctionIR::Explode { columns } => {
+            format!(in alloc; "explode {}", columns_words(alloc, columns)?)
+        }
+        FunctionIR::Rechunk => String::from_str(alloc, "rechunk"),
+        FunctionIR::Rename { existing, new, .. } => rename_words(alloc, existing, new),
+        FunctionIR::RowIndex { name, offset } => {
+            let name = quoted(alloc, name.as_str())?;
+            format!(in alloc; "row index as {name}, offset {}", offset.unwrap_or(0))
+        }
+        FunctionIR::Unnest { columns } => {
+            format!(in alloc; "unnest {}", columns_words(alloc, columns)?)
+        }
+        FunctionIR::Unpivot { args } => unpivot_words(alloc, args),
+    }
+}
+
+// Each column that gets a new name, and that name.
+fn rename_words(
+    alloc: Global,
+    existing: &ColumnNames,
+    new: &ColumnNames,
+) -> Result<String, AllocError> {
+    let mut pairs = Vec::new(alloc);
+    for (column, name) in existing.items.iter().zip(new.items.iter()) {
+        let column = name_words(alloc, column.as_str())?;
+        let name = quoted(alloc, name.as_str())?;
+        pairs.push(format!(in alloc; "{column} as {name}")?)?;
+    }
+    format!(in alloc; "rename [{}]", pairs.as_slice().join(alloc, ", ")?)
+}
+
+// The columns whose values an unpivot puts below each other, those beside which they stand, and the names of its own two.
+fn unpivot_words(alloc: Global, args: &UnpivotArgsIR) -> Result<String, AllocError> {
+    let on = if args.on.items.is_empty() {
+        String::from_str(alloc, "all other columns")?
+    } else {
+        columns_words(alloc, &args.on)?
+    };
+    let index = columns_words(alloc, &args.index)?;
+    let variable = quoted_or(alloc, &args.variable_name, "variable")?;
+    let value = quoted_or(alloc, &args.value_name, "value")?;
+    format!(in alloc; "unpivot {on} beside {index} as {variable}, {value}")
+}
+
+// The name in quotes, or else the text.
+fn quoted_or(alloc: Global, name: &Option<PlSmallStr>, text: &str) -> Result<String, AllocError> {
+    match name {
+        Some(name) => quoted(alloc, name.as_str()),
+        None => quoted(alloc, text),
+    }
+}
+
+// Columns' names, in their order.
+fn columns_words(alloc: Global, columns: &ColumnNames) -> Result<String, AllocError> {
     let mut names = Vec::new(alloc);
-    for name in subset.items.as_slice() {
+    for name in columns.items.as_slice() {
         names.push(name_words(alloc, name.as_str())?)?;
     }
-    format!(in alloc;
-        "    keep {keep} by [{}]\n",
-        names.as_slice().join(alloc, ", ")?
-    )
+    format!(in alloc; "[{}]", names.as_slice().join(alloc, ", ")?)
 }
 
 // The text of an item over the texts of its inputs, in their order.

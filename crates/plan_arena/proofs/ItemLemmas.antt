@@ -206,7 +206,7 @@ is_valid expressions (Distinct input options) flat inputs op is d e = cc
 is_valid expressions (Slice input offset len) flat inputs op is d e = cc
 is_valid expressions (Cache input id cache_hits) flat inputs op is d e = cc
 is_valid expressions (Sink input payload) flat inputs op is d e = cc
-is_valid expressions (MapFunction input function) flat inputs op is d e = cc
+is_valid expressions (MapFunction input function schema) flat inputs op is d e = cc
 is_valid expressions Invalid flat inputs op is d e =
     subst (λ (f : PlanOp (Named ℕ)). DenotesKind expressions f.kind op.kind) (sym (layer_op _ flat [] inputs is)) d.kind
 

@@ -7,14 +7,12 @@ use Rattle.plan_types.specs.declared.error.ErrorKind.{ErrorKind}
 use Rattle.plan_dsl.specs.Registry.{Registry}
 use Rattle.plan_dsl.specs.Trees.{Trees, node, no_more, more, fold_all}
 use Rattle.plan_dsl.specs.Ops.{Expression}
-use Rattle.plan_dsl.specs.Plans.{Named, Work, FilterWork, SliceWork, DistinctWork, PassWork, CachePass, SinkPass, PlanKind, OverKind, PlanOp, Plan, column_names, expressions_of, function_work, over_op, sort_work}
-use Rattle.plan_dsl.specs.declared.function.FunctionIR.{FunctionIR}
-use Rattle.plan_dsl.specs.declared.function.FunctionIR.TheVariants.{Rechunk}
+use Rattle.plan_dsl.specs.Plans.{Named, Work, FilterWork, SliceWork, DistinctWork, PassWork, CachePass, SinkPass, PlanKind, OverKind, PlanOp, Plan, column_names, expressions_of, over_op, sort_work}
 use Rattle.plan_dsl.specs.PlanRules.{TypedOutput, all_type_kinds, expression_kinds, input_schema, keeps_schema, own_kinds, plan_rule, schema_by, schema_of, schemas_of, typed_lists, where_unbroken, work_schema}
 use Rattle.plan_dsl.proofs.RuleLemmas.{kept_schemas}
 use Rattle.plan_arena.specs.declared.aexpr.AExpr.{AExpr}
 use Rattle.plan_arena.specs.declared.ir.IR.{IR}
-use Rattle.plan_arena.specs.declared.ir.IR.TheVariants.{Cache, DataFrameScan, Distinct, Filter, GroupBy, HStack, MapFunction, Select, SimpleProjection, Sink, Slice, Sort, Invalid}
+use Rattle.plan_arena.specs.declared.ir.IR.TheVariants.{Cache, DataFrameScan, Distinct, Filter, GroupBy, HStack, Select, SimpleProjection, Sink, Slice, Sort, Invalid}
 use Rattle.plan_arena.specs.Denotation.{Denotes, DenoteAll}
 use Rattle.plan_arena.specs.Layers.{Layer, layer, op_of}
 use Rattle.plan_arena.specs.Items.{DenotesItem, DenotesKind, DenotesOp, HoldsPlan, KeepsInput, plan_layer}
@@ -79,10 +77,6 @@ by_recorded : (r found first : Option Columns) → HasRecorded r found → (r �
 by_recorded (Some own) found first has none = sym has
 by_recorded None found first has none = none refl
 
--- the works of functions keep it
-function_keeps : (function : FunctionIR) → keeps_schema (function_work function) ≡ true
-function_keeps Rechunk = refl
-
 over_input_of : (work : Work) (nodes : List (List (Named ℕ))) (input : ℕ) → keeps_schema work ≡ true → (n : ℕ) × KeepsInput (layer (over_op work nodes None) (input ∷ [])) n
 over_input_of work nodes input keeps = (input, record { work = work; nodes = nodes; keeps = keeps; is = refl })
 
@@ -94,12 +88,10 @@ keeps_input (Distinct input options) valid none = over_input_of (DistinctWork op
 keeps_input (Slice input offset len) valid none = over_input_of (SliceWork offset len) _ input.0 refl
 keeps_input (Cache input id cache_hits) valid none = over_input_of (PassWork (CachePass id)) _ input.0 refl
 keeps_input (Sink input payload) valid none = over_input_of (PassWork SinkPass) _ input.0 refl
-keeps_input (MapFunction input function) valid none = over_input_of (function_work function) _ input.0 (function_keeps function)
 keeps_input Invalid valid none = absurd (valid refl)
 keeps_input _ valid none = cc
 
 module _ (expressions : List AExpr) where
-  -- an item that records none keeps the schema of its only input
   -- an item that records none keeps the schema of its only input
   keeps_its : (item : IR) (flat : PlanOp (Named ℕ)) (ns : List ℕ) (op : PlanOp (Named Expression)) → plan_layer item ≡ layer flat ns → DenotesOp expressions flat op → op.recorded ≡ None → (work : Work) × (lists : List (List (Named Expression))) × (m : ℕ) × (keeps_schema work ≡ true) × (op.kind ≡ OverKind work lists) × (ns ≡ m ∷ [])
   keeps_its item flat ns op is d none =

@@ -9,7 +9,7 @@ use Rattle.plan_dsl.specs.Ops.{Op, ColumnOp, BinaryOp, CastOp, LenOp, SliceOp, A
 use Rattle.plan_dsl.specs.declared.sort_options.SortOptions.{SortOptions}
 use Rattle.plan_dsl.specs.Literals.{literal_op}
 use Rattle.plan_dsl.specs.Names.{Label, FromField, FromNothing, alias_label, column_label, literal_label}
-use Rattle.plan_dsl.specs.Plans.{Work, SelectWork, HStackWork, GroupByWork, FilterWork, SimpleProjectionWork, DropWork, SliceWork, SortWork, DistinctWork, PassWork, CachePass, SinkPass, RechunkPass, PlanKind, ScanKind, OverKind, RefusedKind, PlanOp, OverInput, Plan, Named, scan_op, select_op, hstack_op, group_by_op, filter_op, simple_projection_op, over_op, sort_work, function_work, column_names, expressions_of}
+use Rattle.plan_dsl.specs.Plans.{Work, SelectWork, HStackWork, GroupByWork, FilterWork, SimpleProjectionWork, DropWork, SliceWork, SortWork, DistinctWork, PassWork, FunctionWork, CallWork, SamePass, CachePass, SinkPass, RechunkPass, PlanKind, ScanKind, OverKind, RefusedKind, PlanOp, OverInput, Plan, Named, scan_op, select_op, hstack_op, group_by_op, filter_op, simple_projection_op, over_op, sort_work, function_work, column_names, expressions_of}
 use Rattle.plan_dsl.specs.PlanRules.{keeps_schema}
 use Rattle.plan_arena.specs.Aggregates.{input_at, method_at}
 use Rattle.plan_arena.specs.Denotation.{Denotes, DenoteAll, DenotesTree}
@@ -102,7 +102,7 @@ plan_layer (Distinct input options) = layer (over_op (DistinctWork options.keep_
 plan_layer (SliceOf input offset len) = layer (over_op (SliceWork offset len) [] None) (input.0 ∷ [])
 plan_layer (Cache input id cache_hits) = layer (over_op (PassWork (CachePass id)) [] None) (input.0 ∷ [])
 plan_layer (Sink input payload) = layer (over_op (PassWork SinkPass) [] None) (input.0 ∷ [])
-plan_layer (MapFunction input function) = layer (over_op (function_work function) [] None) (input.0 ∷ [])
+plan_layer (MapFunction input function schema) = layer (over_op (function_work function) [] (Some (columns schema))) (input.0 ∷ [])
 plan_layer Invalid = layer (record { kind = RefusedKind []; recorded = None }) []
 
 -- the expressions of a node, of all its lists in order
@@ -121,7 +121,7 @@ pub record KeepsInput (item : Layer (PlanOp (Named ℕ))) (input : ℕ) : Type 0
   pub keeps : keeps_schema work ≡ true
   pub is : item ≡ layer (over_op work nodes None) (input ∷ [])
 
--- What a report calls a node over one input, and a node of the kind. No item is a drop.
+-- What a report calls a node over one input, and a node of the kind. No item is a drop, a call, or nothing done to its input.
 abbrev pub work_text : Work → List ℕ
 work_text SelectWork = codes "projection"
 work_text HStackWork = codes "hstack"
@@ -135,6 +135,9 @@ work_text (DistinctWork keep subset) = codes "distinct"
 work_text (PassWork (CachePass id)) = codes "cache"
 work_text (PassWork SinkPass) = codes "sink (memory)"
 work_text (PassWork RechunkPass) = codes "map_function"
+work_text (PassWork SamePass) = codes "invalid"
+work_text (FunctionWork function) = codes "map_function"
+work_text (CallWork call) = codes "invalid"
 
 abbrev pub kind_text : {E : Type 0} → PlanKind E → List ℕ
 kind_text (ScanKind table schema) = codes "df"

@@ -21,7 +21,7 @@ option_of (Distinct input options) = OrderOption options.maintain_order ∷ []
 option_of (Slice input offset len) = []
 option_of (Cache input id cache_hits) = HitsOption cache_hits ∷ []
 option_of (Sink input payload) = []
-option_of (MapFunction input function) = []
+option_of (MapFunction input function schema) = []
 option_of Invalid = []
 
 -- the options of an arena's items, in the order of their numbers

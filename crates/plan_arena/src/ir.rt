@@ -64,10 +64,11 @@ pub enum IR {
         schema: Schema,
         options: ProjectionOptions,
     },
-    /// What a function makes of the input's frame.
+    /// What a function makes of the input's frame, and its schema.
     MapFunction {
         input: Node,
         function: FunctionIR,
+        schema: Schema,
     },
     /// A frame of a column for each expression.
     Select {
@@ -148,7 +149,11 @@ impl IR {
                 sort_options,
             } => sort_copy(*input, by_column, sort_options, alloc),
             IR::Distinct { input, options } => distinct_copy(*input, options, alloc),
-            IR::MapFunction { input, function } => function_copy(*input, function, alloc),
+            IR::MapFunction {
+                input,
+                function,
+                schema,
+            } => function_copy(*input, function, schema, alloc),
             IR::Slice { input, offset, len } => same!(Slice, input, offset, len),
             IR::Cache {
                 input,
@@ -227,13 +232,13 @@ impl IR {
             IR::Cache { input, .. }
             | IR::Distinct { input, .. }
             | IR::Filter { input, .. }
-            | IR::MapFunction { input, .. }
             | IR::Sink { input, .. }
             | IR::Slice { input, .. }
             | IR::Sort { input, .. } => Some(*input),
             IR::DataFrameScan { .. }
             | IR::GroupBy { .. }
             | IR::HStack { .. }
+            | IR::MapFunction { .. }
             | IR::Select { .. }
             | IR::SimpleProjection { .. }
             | IR::Invalid => None,
@@ -271,12 +276,12 @@ impl IR {
             IR::DataFrameScan { schema, .. }
             | IR::GroupBy { schema, .. }
             | IR::HStack { schema, .. }
+            | IR::MapFunction { schema, .. }
             | IR::Select { schema, .. } => schema,
             IR::SimpleProjection { columns, .. } => columns,
             IR::Cache { .. }
             | IR::Distinct { .. }
             | IR::Filter { .. }
-            | IR::MapFunction { .. }
             | IR::Sink { .. }
             | IR::Slice { .. }
             | IR::Sort { .. }
@@ -405,9 +410,19 @@ fn distinct_copy(input: Node, options: &DistinctOptionsIR, alloc: Global) -> Res
     Ok(IR::Distinct { input, options })
 }
 
-fn function_copy(input: Node, function: &FunctionIR, alloc: Global) -> Result<IR, PlanError>
-    ensures { CopiesItem (IR.MapFunction input function.now) result }
+fn function_copy(
+    input: Node,
+    function: &FunctionIR,
+    schema: &Schema,
+    alloc: Global,
+) -> Result<IR, PlanError>
+    ensures { CopiesItem (IR.MapFunction input function.now schema.now) result }
 {
     let function = function.try_clone(alloc)?;
-    Ok(IR::MapFunction { input, function })
+    let schema = schema.try_clone(alloc)?;
+    Ok(IR::MapFunction {
+        input,
+        function,
+        schema,
+    })
 }

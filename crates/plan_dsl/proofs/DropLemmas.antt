@@ -30,9 +30,9 @@ pub then_either_told : {A B : Type 0} (r : Result A (List ErrorKind)) (next : A 
 then_either_told (Ok x) next kinds first later h = later x h
 then_either_told (Err others) next kinds first later h = let same : others ≡ kinds = cc in subst (λ l. (told : ErrorKind) × Contains l told) same (first others refl)
 
-absent_told : (columns : Columns) (absent : Bool) (kinds : List ErrorKind) → cond absent (Err (ColumnNotFound ∷ [])) (Ok columns) ≡ Err kinds → (told : ErrorKind) × Contains kinds told
-absent_told columns true kinds h = let same : ColumnNotFound ∷ [] ≡ kinds = cc in (ColumnNotFound, subst (λ l. Contains l ColumnNotFound) same (Contains-push [] ColumnNotFound))
-absent_told columns false kinds h = absurd cc
+pub absent_told : {A : Type 0} (found : A) (absent : Bool) (kinds : List ErrorKind) → cond absent (Err (ColumnNotFound ∷ [])) (Ok found) ≡ Err kinds → (told : ErrorKind) × Contains kinds told
+absent_told found true kinds h = let same : ColumnNotFound ∷ [] ≡ kinds = cc in (ColumnNotFound, subst (λ l. Contains l ColumnNotFound) same (Contains-push [] ColumnNotFound))
+absent_told found false kinds h = absurd cc
 
 pub names_told : (schema : Columns) (selectors : List Source) (kinds : List ErrorKind) → names_of_selectors schema selectors ≡ Err kinds → (told : ErrorKind) × Contains kinds told
 names_told schema selectors kinds h =

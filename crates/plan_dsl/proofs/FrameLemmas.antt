@@ -1,8 +1,8 @@
 -- A plan's node over frames of the schemas of its inputs gives a frame of its own schema.
-use Rattle.std.proofs.Common.{◌≡◌, ℕ, zero, suc, List, [], ◌∷◌, ◌++◌, map, replicate, slice_get, Option, Some, None, Bool, true, false, ◌&&◌, ◌||◌, ◌==◌, length, cond, IsTrue, Result, Ok, Err, refl, sym, ap, ◌∙◌, subst}
+use Rattle.std.proofs.Common.{◌≡◌, ℕ, List, [], ◌∷◌, ◌++◌, map, slice_get, Option, Some, None, true, false, ◌||◌, ◌==◌, length, cond, IsTrue, Result, Ok, Err, refl, sym, ap, ◌∙◌, subst}
 use Rattle.std.specs.List.{AllByRecursion, flat_map, list_all}
 use Rattle.std.specs.Option.{option_map, option_map_or}
-use Rattle.std.proofs.lemmas.Bool.{or_parts}
+use Rattle.std.proofs.lemmas.Bool.{and_parts, or_parts}
 use Rattle.std.proofs.lemmas.Cmp.{nat_list_eq_equiv}
 use Rattle.std.proofs.lemmas.List.{map-append}
 use Rattle.plan_types.specs.Types.{Ty, same_type}
@@ -18,7 +18,7 @@ use Rattle.plan_types.proofs.ValueLemmas.{meets_then, value_in_fits}
 use Rattle.plan_dsl.specs.Registry.{Registry}
 use Rattle.plan_dsl.specs.Trees.{Trees, node, no_more, more, fold_all}
 use Rattle.plan_dsl.specs.Ops.{Expression}
-use Rattle.plan_dsl.specs.Plans.{Named, Work, SelectWork, HStackWork, GroupByWork, FilterWork, SimpleProjectionWork, SliceWork, SortWork, DistinctWork, PassWork, PlanKind, ScanKind, OverKind, PlanOp, Plan, Scan, expressions_of, own_scans, scans_in}
+use Rattle.plan_dsl.specs.Plans.{Named, Work, SelectWork, HStackWork, GroupByWork, FilterWork, SimpleProjectionWork, SliceWork, SortWork, DistinctWork, PassWork, FunctionWork, PlanKind, ScanKind, OverKind, PlanOp, Plan, Scan, expressions_of, own_scans, scans_in}
 use Rattle.plan_dsl.specs.Literals.{settled}
 use Rattle.plan_dsl.specs.Typing.{Typed, typing}
 use Rattle.plan_dsl.specs.Kernels.{stretched, at_length, for_rows, in_front, key_rows}
@@ -27,12 +27,21 @@ use Rattle.plan_dsl.specs.PlanKernels.{Evaluated, Evaluation, Series, series_typ
 use Rattle.plan_dsl.specs.Groups.{Group, groups}
 use Rattle.plan_dsl.specs.Grouping.{value_typed, group_value, group_values, group_rows, column_before, columns_in_groups, group_frame, grouped_by, grouped_on}
 use Rattle.plan_dsl.specs.PlanRules.{broken_kinds, expression_kinds, scan_kinds, key_kinds, name_kinds, names_in, type_kinds, typed_kinds, list_type_kinds, all_type_kinds, work_kinds, type_in_groups, stands_in, projection_kinds, TypedOutput, output_before, typed_outputs, list_before, typed_lists, columns_of, aggregate_columns, with_columns, work_schema, schema_by, plan_rule, schema_of, schemas_of, IsWellFormed, AllWellFormed}
+use Rattle.plan_dsl.specs.TableFrames.{function_frame}
+use Rattle.plan_dsl.specs.TableFunctions.{TableFunction, RowIndexFunction, ExplodeFunction, UnpivotFunction, RenameFunction, UnnestFunction}
+use Rattle.plan_dsl.specs.TableRules.{function_kinds, function_schema}
 use Rattle.plan_dsl.specs.PlanMeaning.{by_meaning, source_meaning, HasTable, HasTables, FitsPlan, MeetsWhere}
 use Rattle.plan_dsl.specs.Laws.{AreOf, MeaningHasSchema, OwnColumnsGiveTheFrame}
 use Rattle.plan_dsl.specs.WorkLaws.{IsGiven, AreGiven, ListsAreGiven, output_names, kinds_of_types, KeepsFrames, NothingHasNoColumns}
+use Rattle.plan_dsl.proofs.ColumnLemmas.{stretched_fits}
+use Rattle.plan_dsl.proofs.ExplodeLemmas.{explode_keeps}
 use Rattle.plan_dsl.proofs.FitLemmas.{meaning_has_type}
 use Rattle.plan_dsl.proofs.GroupingLemmas.{groups_have, rows_joined_fit, group_value_fits}
+use Rattle.plan_dsl.proofs.RowFitLemmas.{rows_in_front, bare_rows, without_columns}
 use Rattle.plan_dsl.proofs.RowWorkLemmas.{sliced_frame, sorted_frame, distinct_frame}
+use Rattle.plan_dsl.proofs.TableLemmas.{index_keeps, rename_keeps}
+use Rattle.plan_dsl.proofs.UnnestLemmas.{unnest_keeps}
+use Rattle.plan_dsl.proofs.UnpivotLemmas.{unpivot_keeps}
 use Rattle.plan_dsl.proofs.RuleLemmas.{unbroken_kinds, unbroken_schema, no_front, no_tail, not_repeated, scan_distinct, projection_stands, projection_distinct, well_formed_schema}
 
 -- each input has a schema, and gives a frame of it unless there is a fault
@@ -76,45 +85,13 @@ fits_input tables op input h = front_tables tables (scans_in input) [] (back_tab
 pub fits_over : (tables : List Frame) (op : PlanOp (Named Expression)) (input : Plan) → own_scans op.kind ≡ [] → FitsPlan tables input → FitsPlan tables (node op (more input no_more))
 fits_over tables op input none h = subst (λ scans. HasTables tables (scans ++ (scans_in input ++ []))) (sym none) (all_tables tables (scans_in input) [] h tt)
 
-both : (a b : Bool) → IsTrue a → IsTrue b → IsTrue (a && b)
-both a b p q = ap (λ x. x && b) p ∙ q
-
-first_of_both : (a b : Bool) → IsTrue (a && b) → IsTrue a
-first_of_both true b h = refl
-first_of_both false b h = cc
-
-second_of_both : (a b : Bool) → IsTrue (a && b) → IsTrue b
-second_of_both true b h = h
-second_of_both false b h = cc
-
-all_fit-replicate : (count : ℕ) (value : Val) (type : Ty) → IsTrue (fits value type) → IsTrue (all_fit (replicate count value) type)
-all_fit-replicate zero value type h = refl
-all_fit-replicate (suc count) value type h = both (fits value type) _ h (all_fit-replicate count value type h)
-
--- a column that is brought to another length keeps fitting
-all_fit-stretched : (count : ℕ) (values : List Val) (type : Ty) → IsTrue (all_fit values type) → IsTrue (all_fit (stretched count values) type)
-all_fit-stretched count [] type h = refl
-all_fit-stretched count (value ∷ []) type h = all_fit-replicate count value type (first_of_both (fits value type) true h)
-all_fit-stretched count (first ∷ second ∷ rest) type h = h
-
--- a fitting value in front of each fitting row
-rows_in_front : (columns : Columns) (name : Name) (type : Ty) (values : List Val) (rows : List Row) → IsTrue (all_fit values type) → AllByRecursion (RowFits columns) rows → AllByRecursion (RowFits ((name, type) ∷ columns)) (in_front values rows)
-rows_in_front columns name type [] rows h k = tt
-rows_in_front columns name type (value ∷ values) [] h k = tt
-rows_in_front columns name type (value ∷ values) (row ∷ rows) h k =
-    ((first_of_both (fits value type) (all_fit values type) h, k.0), rows_in_front columns name type values rows (second_of_both (fits value type) (all_fit values type) h) k.1)
-
-bare_rows : (count : ℕ) → AllByRecursion (RowFits []) (replicate count [])
-bare_rows zero = tt
-bare_rows (suc count) = (tt, bare_rows count)
-
 abbrev FitsSeries : Series → Type 0
 FitsSeries s = IsTrue (all_fit s.values s.type)
 
 -- rows of fitting columns fit
 rows_fit : (count : ℕ) (ss : List Series) → AllByRecursion FitsSeries ss → AllByRecursion (RowFits (series_columns ss)) (rows_of count ss)
 rows_fit count [] h = bare_rows count
-rows_fit count (s ∷ ss) h = rows_in_front (series_columns ss) s.name s.type (stretched count s.values) (rows_of count ss) (all_fit-stretched count s.values s.type h.0) (rows_fit count ss h.1)
+rows_fit count (s ∷ ss) h = rows_in_front (series_columns ss) s.name s.type (stretched count s.values) (rows_of count ss) (stretched_fits count s.values s.type h.0) (rows_fit count ss h.1)
 
 -- fitting columns of a schema
 record AreSeriesOf (schema : Columns) (ss : List Series) : Type 0 where
@@ -187,9 +164,6 @@ empty_meets own schema e distinct = record {
   frame_is = record { distinct = distinct; fitting = tt; bare = no_rows own };
 }
 
-without_columns : (schema : Columns) → [] ≡ schema → IsFrameOf schema empty_frame
-without_columns schema e = record { schema_is = e; frame_is = record { distinct = tt; fitting = tt; bare = refl } }
-
 -- a column that is put in leaves the names distinct
 other_is_new : (cs : Columns) (name other : Name) (type : Ty) → IsNewName cs other → same_name other name ≡ false → IsNewName (with_column cs name type) other
 other_is_new [] name other type new apart = ap (λ b. cond b (Some type) None) apart
@@ -214,7 +188,7 @@ rows_with_fit : (cs : Columns) (name : Name) (type : Ty) (values : List Val) (ro
 rows_with_fit cs name type [] rows h k = tt
 rows_with_fit cs name type (value ∷ values) [] h k = tt
 rows_with_fit cs name type (value ∷ values) (row ∷ rows) h k =
-    (row_with_fits cs name type value row (first_of_both (fits value type) (all_fit values type) h) k.0, rows_with_fit cs name type values rows (second_of_both (fits value type) (all_fit values type) h) k.1)
+    let parts = and_parts (fits value type) (all_fit values type) h in (row_with_fits cs name type value row parts.0 k.0, rows_with_fit cs name type values rows parts.1 k.1)
 
 has_a_column : (cs : Columns) (name : Name) (type : Ty) (rows : List Row) → HasNoRowsWithoutColumns (with_column cs name type) rows
 has_a_column [] name type rows = tt
@@ -236,7 +210,7 @@ stacked_meets : (schema : Columns) (ss : List Series) (frame : Frame) → IsFram
 stacked_meets schema [] frame h k = h
 stacked_meets schema (s ∷ ss) frame h k =
     let count = length frame.rows in
-    let put = column_in_frame schema frame s.name s.type (stretched count s.values) h (all_fit-stretched count s.values s.type k.0) in
+    let put = column_in_frame schema frame s.name s.type (stretched count s.values) h (stretched_fits count s.values s.type k.0) in
     elim (length s.values == count || length s.values == 1) as (λ b. Meets (IsFrameOf (with_columns schema (series_columns (s ∷ ss)))) (then_do (cond b (Done (stretched count s.values)) Fault) (λ each. stacked ss (frame_with_column frame s.name s.type each)))) [ true ↦ stacked_meets (with_column schema s.name s.type) ss (frame_with_column frame s.name s.type (stretched count s.values)) put k.1 | false ↦ tt ]
 
 -- rows that are kept still fit
@@ -280,9 +254,9 @@ found_type column (Some type) h = ap Some (sym (same_type_exact column.1 type h)
 row_in_fits : (schema columns : Columns) (row : Row) → list_all (stands_in schema) columns ≡ true → RowFits schema row → RowFits columns (row_in schema columns row)
 row_in_fits schema [] row h k = tt
 row_in_fits schema (c ∷ cs) row h k =
-    let rest = list_all (stands_in schema) cs in
-    let found = found_type c (type_at schema c.0) (first_of_both (stands_in schema c) rest h) in
-    (value_in_fits schema c.0 row c.1 k found, row_in_fits schema cs row (second_of_both (stands_in schema c) rest h) k)
+    let parts = and_parts (stands_in schema c) (list_all (stands_in schema) cs) h in
+    let found = found_type c (type_at schema c.0) parts.0 in
+    (value_in_fits schema c.0 row c.1 k found, row_in_fits schema cs row parts.1 k)
 
 rows_in_fit : (schema columns : Columns) (rows : List Row) → list_all (stands_in schema) columns ≡ true → AllByRecursion (RowFits schema) rows → AllByRecursion (RowFits columns) (map (row_in schema columns) rows)
 rows_in_fit schema columns [] h k = tt
@@ -335,7 +309,7 @@ projected_frame under c cs frame none h =
 -- columns of keys make rows that fit, or a length is a fault
 for_rows_fit : (count : ℕ) (values : List Val) (type : Ty) → IsTrue (all_fit values type) → Meets (λ column. IsTrue (all_fit column type)) (for_rows count values)
 for_rows_fit count values type h =
-    elim (length values == count || length values == 1) as (λ b. Meets (λ column. IsTrue (all_fit column type)) (cond b (Done (stretched count values)) Fault)) [ true ↦ all_fit-stretched count values type h | false ↦ tt ]
+    elim (length values == count || length values == 1) as (λ b. Meets (λ column. IsTrue (all_fit column type)) (cond b (Done (stretched count values)) Fault)) [ true ↦ stretched_fits count values type h | false ↦ tt ]
 
 key_rows_fit : (count : ℕ) (ss : List Series) → AllByRecursion FitsSeries ss → Meets (AllByRecursion (RowFits (series_columns ss))) (key_rows count (map (λ s. s.values) ss))
 key_rows_fit count [] h = bare_rows count
@@ -480,6 +454,14 @@ no_given : (answers : List (List Evaluated)) → ListsAreGiven [] answers → an
 no_given [] h = refl
 no_given (es ∷ rest) h = absurd h
 
+-- a function that breaks no rule gives a frame of its schema, or an explode's lists are a fault
+functions_keep : (function : TableFunction) (schema : Columns) (frame : Frame) → IsFrameOf schema frame → function_kinds function schema ≡ [] → Meets (IsFrameOf (function_schema function schema)) (function_frame function frame)
+functions_keep (RowIndexFunction name offset) schema frame h none = index_keeps schema frame name offset h none
+functions_keep (ExplodeFunction columns) schema frame h none = explode_keeps schema frame columns h
+functions_keep (UnpivotFunction on index variable value) schema frame h none = unpivot_keeps schema frame on index variable value h none
+functions_keep (RenameFunction existing new swapping) schema frame h none = rename_keeps schema frame existing new h none
+functions_keep (UnnestFunction columns) schema frame h none = unnest_keeps schema frame columns h none
+
 -- each work over one input keeps frames: other lists than its own break a rule
 pub works_keep_frames : (work : Work) → KeepsFrames work
 works_keep_frames SelectWork schema frame (os ∷ []) answers h given types none some =
@@ -507,6 +489,8 @@ works_keep_frames (DistinctWork keep subset) schema frame [] answers h given typ
     subst (λ l. Meets (IsFrameOf schema) (work_frame (DistinctWork keep subset) l frame)) (sym (no_given answers given)) (distinct_frame schema frame keep subset h)
 works_keep_frames (PassWork passing) schema frame [] answers h given types none some =
     subst (λ l. Meets (IsFrameOf schema) (work_frame (PassWork passing) l frame)) (sym (no_given answers given)) h
+works_keep_frames (FunctionWork function) schema frame [] answers h given types none some =
+    subst (λ l. Meets (IsFrameOf (function_schema function schema)) (work_frame (FunctionWork function) l frame)) (sym (no_given answers given)) (functions_keep function schema frame h none)
 works_keep_frames work schema frame lists answers h given types none some = absurd cc
 
 pub nothing_has_no_columns : (work : Work) → NothingHasNoColumns work

@@ -37,7 +37,7 @@ pub no_number : (below : Bool) → (not below && below) ≡ true → ⊥
 no_number true h = cc
 no_number false h = cc
 
-exploded_fits : (value : Val) (type : Ty) → fits value type ≡ true → IsTrue (all_fit (exploded value) (own_type Item type))
+pub exploded_fits : (value : Val) (type : Ty) → fits value type ≡ true → IsTrue (all_fit (exploded value) (own_type Item type))
 exploded_fits NullValue type h = refl
 exploded_fits (TruthValue truth) Truth h = refl
 exploded_fits (TruthValue truth) _ h = cc

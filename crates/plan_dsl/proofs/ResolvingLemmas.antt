@@ -1,25 +1,27 @@
 -- Queries' plans, resolved: places, schemas and scans.
-use Rattle.std.proofs.Common.{◌≡◌, ℕ, zero, suc, List, [], ◌∷◌, ◌++◌, map, Option, Some, None, option_map, is_some, IsTrue, Bool, true, false, cond, Result, Ok, Err, refl, sym, ap, ◌∙◌, subst}
+use Rattle.std.proofs.Common.{◌≡◌, ℕ, zero, suc, List, [], ◌∷◌, ◌++◌, map, Option, Some, None, option_map, is_some, IsTrue, Bool, true, false, not, ◌&&◌, ◌==◌, length, cond, Result, Ok, Err, refl, sym, ap, ◌∙◌, subst}
 use Rattle.std.specs.List.{Contains, flat_map, list_all}
 use Rattle.plan_types.specs.Schemas.{Columns}
 use Rattle.plan_types.specs.declared.error.ErrorKind.{ErrorKind}
 use Rattle.plan_dsl.specs.Registry.{Registry}
 use Rattle.plan_dsl.specs.Trees.{Trees, node, no_more, more, fold_all, child_at, child_of, tree_at}
 use Rattle.plan_dsl.specs.Ops.{Expression}
-use Rattle.plan_dsl.specs.Plans.{Work, SelectWork, HStackWork, GroupByWork, FilterWork, SimpleProjectionWork, DropWork, SortWork, DistinctWork, PlanKind, ScanKind, OverKind, RefusedKind, PlanOp, Named, named, over_op, select_op, hstack_op, group_by_op, filter_op, simple_projection_op, source_over, source_select, source_hstack, source_group_by, source_filter, source_drop, SourcePlan, own_scans, scans_in}
+use Rattle.plan_dsl.specs.Plans.{Work, SelectWork, HStackWork, GroupByWork, FilterWork, SimpleProjectionWork, DropWork, SortWork, DistinctWork, FunctionWork, CallWork, PlanKind, ScanKind, OverKind, RefusedKind, PlanOp, Named, named, over_op, select_op, hstack_op, group_by_op, filter_op, simple_projection_op, source_over, source_select, source_hstack, source_group_by, source_filter, source_drop, SourcePlan, own_scans, scans_in}
 use Rattle.plan_dsl.specs.Sources.{Source, written}
 use Rattle.plan_dsl.specs.Refusals.{then_ok, with_kinds}
 use Rattle.plan_dsl.specs.Expansion.{expansions, key_names, predicate_expansion}
 use Rattle.plan_dsl.specs.Markers.{names_of_selectors}
-use Rattle.plan_dsl.specs.Drops.{drop_leaves}
+use Rattle.plan_dsl.specs.Drops.{drop_leaves, have_names}
 use Rattle.plan_dsl.specs.SortFlags.{sort_flags}
+use Rattle.plan_dsl.specs.TableCalls.{called_work, explode_work, has_some}
+use Rattle.plan_dsl.specs.TableFunctions.{TableCall, ExplodeCall, RenameCall, StatsCall, UnnestCall, UnpivotCall, RenameFunction, UnnestFunction, UnpivotFunction}
 use Rattle.plan_dsl.specs.PlanRules.{broken_kinds, where_unbroken, plan_rule, schema_of, schemas_of, IsWellFormed, AllWellFormed}
 use Rattle.plan_dsl.specs.PlanMeaning.{HasTables}
 use Rattle.plan_dsl.specs.Resolving.{over_keys, in_front_of, expanded_each, expanded_lists, resolved_work, over_named, over_expanded, expanded_kind, first_columns, schemas_there, resolution, resolved_kind, resolved_op, resolved, all_resolved}
 use Rattle.plan_dsl.specs.Laws.{UnresolvedIsTold, PlacesStay, ResolvedBreaksNothing, NothingIsToldAboveARefusal, ScansStay, QueryHasSchema}
 use Rattle.plan_dsl.proofs.RuleLemmas.{unbroken_kinds}
 use Rattle.plan_dsl.proofs.FrameLemmas.{meaning_has_schema}
-use Rattle.plan_dsl.proofs.DropLemmas.{drop_is_told, names_told, then_either_told}
+use Rattle.plan_dsl.proofs.DropLemmas.{absent_told, drop_is_told, names_told, then_either_told}
 use Rattle.plan_dsl.proofs.SortFlagLemmas.{sort_is_told}
 use Rattle.plan_dsl.proofs.ExpansionLemmas.{unexpanded_told, with_kinds_told}
 
@@ -158,7 +160,18 @@ lists_are_told schema GroupByWork (keys ∷ aggs ∷ []) kinds h =
 lists_are_told schema FilterWork ((source ∷ []) ∷ []) kinds h = then_told (with_kinds (predicate_expansion schema source)) (λ tree. (tree ∷ []) ∷ []) kinds (with_kinds_told (predicate_expansion schema source)) h
 lists_are_told schema (DropWork strict) lists kinds h = absurd cc
 lists_are_told schema (DistinctWork keep None) (selectors ∷ []) kinds h = absurd cc
+lists_are_told schema (CallWork call) lists kinds h = absurd cc
 lists_are_told schema work lists kinds h = each_told schema lists kinds h
+
+call_is_told : (schema : Columns) (call : TableCall) (lists : List (List Source)) (kinds : List ErrorKind) → called_work schema call lists ≡ Err kinds → (told : ErrorKind) × Contains kinds told
+call_is_told schema (ExplodeCall allow_empty) (selectors ∷ []) kinds h = then_told (names_of_selectors schema selectors) (explode_work allow_empty) kinds (names_told schema selectors) h
+call_is_told schema (UnpivotCall variable value) (on ∷ index ∷ []) kinds h =
+    then_either_told (names_of_selectors schema on) (λ names. then_ok (names_of_selectors schema index) (λ others. Ok (FunctionWork (UnpivotFunction names others variable value)))) kinds (names_told schema on) (λ names e. then_told (names_of_selectors schema index) (λ others. FunctionWork (UnpivotFunction names others variable value)) kinds (names_told schema index) e) h
+call_is_told schema (RenameCall existing new strict) [] kinds h =
+    absent_told (FunctionWork (RenameFunction existing new (has_some schema new))) (length existing == length new && (strict && not (have_names schema existing))) kinds h
+call_is_told schema UnnestCall (selectors ∷ []) kinds h = then_told (names_of_selectors schema selectors) (λ names. FunctionWork (UnnestFunction names)) kinds (names_told schema selectors) h
+call_is_told schema (StatsCall statistic) [] kinds h = absurd cc
+call_is_told schema call lists kinds h = absurd cc
 
 work_is_told : (schema : Columns) (work : Work) (lists : List (List Source)) (kinds : List ErrorKind) → resolved_work schema work lists ≡ Err kinds → (told : ErrorKind) × Contains kinds told
 work_is_told schema (DropWork strict) (selectors ∷ []) kinds h = then_told (drop_leaves schema selectors strict) SimpleProjectionWork kinds (drop_is_told schema selectors strict) h
@@ -166,6 +179,7 @@ work_is_told schema (SortWork descending nulls_last) (by ∷ []) kinds h =
     then_told (sort_flags schema by descending nulls_last) (λ flags. SortWork flags.0 flags.1) kinds (sort_is_told schema by descending nulls_last) h
 work_is_told schema (DistinctWork keep None) (selectors ∷ []) kinds h =
     then_told (names_of_selectors schema selectors) (λ names. DistinctWork keep (Some names)) kinds (names_told schema selectors) h
+work_is_told schema (CallWork call) lists kinds h = call_is_told schema call lists kinds h
 work_is_told schema work lists kinds h = absurd cc
 
 kind_is_told : (registry : Registry) (inputs : List Columns) (kind : PlanKind Source) (kinds : List ErrorKind) → expanded_kind registry inputs kind ≡ Err kinds → (told : ErrorKind) × Contains kinds told

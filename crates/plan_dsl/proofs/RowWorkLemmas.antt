@@ -118,7 +118,7 @@ kept_among Last (row ∷ next ∷ rows) P each = kept_among Last (next ∷ rows)
 kept_among None (row ∷ []) P each = (each.0, tt)
 kept_among None (row ∷ next ∷ rows) P each = tt
 
-both_have : (P : Row → Type 0) (front back : List Row) → AllByRecursion P front → AllByRecursion P back → AllByRecursion P (front ++ back)
+pub both_have : (P : Row → Type 0) (front back : List Row) → AllByRecursion P front → AllByRecursion P back → AllByRecursion P (front ++ back)
 both_have P [] back h k = k
 both_have P (row ∷ front) back h k = (h.0, both_have P front back h.1 k)
 

@@ -13,6 +13,7 @@ pub mod GroupLaws
 pub mod Grouping
 pub mod FrameRowLaws
 pub mod FrameRows
+pub mod FunctionSchemas
 pub mod FunctionTypes
 pub mod FunctionValues
 pub mod Functions
@@ -51,6 +52,11 @@ pub mod SourceLaws
 pub mod Sources
 pub mod StrictRun
 pub mod Strictness
+pub mod TableCalls
+pub mod TableFrames
+pub mod TableFunctions
+pub mod TableLaws
+pub mod TableRules
 pub mod Trees
 pub mod Typing
 pub mod ViewLaws

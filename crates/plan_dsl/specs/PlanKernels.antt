@@ -16,11 +16,12 @@ use Rattle.plan_types.specs.Frames.{Row, Frame, value_in, empty_frame, row_numbe
 use Rattle.plan_dsl.specs.Ops.{Expression}
 use Rattle.plan_dsl.specs.Picks.{where_true}
 use Rattle.plan_dsl.specs.declared.distinct_options.UniqueKeepStrategy.{UniqueKeepStrategy}
-use Rattle.plan_dsl.specs.Plans.{Work, SelectWork, HStackWork, GroupByWork, FilterWork, SimpleProjectionWork, SliceWork, SortWork, DistinctWork, PassWork, PlanKind, ScanKind, OverKind, PlanOp, Named}
+use Rattle.plan_dsl.specs.Plans.{Work, SelectWork, HStackWork, GroupByWork, FilterWork, SimpleProjectionWork, SliceWork, SortWork, DistinctWork, PassWork, FunctionWork, PlanKind, ScanKind, OverKind, PlanOp, Named}
 use Rattle.plan_dsl.specs.PlanRules.{names_in}
 use Rattle.plan_dsl.specs.Sorting.{key_options}
 use Rattle.plan_dsl.specs.FrameRows.{rows_between, rows_by_keys, rows_once, values_under}
 use Rattle.plan_dsl.specs.Kernels.{common_length, stretched, at_length, for_rows, in_front, key_rows}
+use Rattle.plan_dsl.specs.TableFrames.{function_frame}
 pub use Rattle.plan_dsl.specs.Evaluations.{Evaluated, Evaluation, Series, series_typed, series_on, all_series, series_columns}
 use Rattle.plan_dsl.specs.Grouping.{grouped_on}
 
@@ -128,7 +129,7 @@ gives_nothing (SimpleProjectionWork []) lists = true
 gives_nothing work lists = false
 
 -- What a node over one input gives on its frame, by what its expressions are there. With other lists than its own, which
--- no plan has, it is stuck, and so is a drop, which no resolved plan has.
+-- no plan has, it is stuck, and so are a drop and a call, which no resolved plan has.
 abbrev pub work_frame : Work → List (List Evaluated) → Frame → Outcome Frame
 work_frame SelectWork (es ∷ []) frame = selected_on es (row_numbers frame)
 work_frame HStackWork (es ∷ []) frame = hstacked_on es frame
@@ -139,6 +140,7 @@ work_frame (SliceWork offset count) [] frame = Done (with_rows frame (rows_betwe
 work_frame (SortWork descending nulls_last) (es ∷ []) frame = sorted_on descending nulls_last es frame
 work_frame (DistinctWork keep subset) [] frame = Done (distinct_on keep subset frame)
 work_frame (PassWork passing) [] frame = Done frame
+work_frame (FunctionWork function) [] frame = function_frame function frame
 work_frame work lists frame = Stuck
 
 abbrev pub over_frame : Evaluation → Work → List (List (Named Expression)) → Outcome Frame → Outcome Frame

@@ -11,16 +11,14 @@ use Rattle.plan_types.specs.declared.error.ErrorKind.TheVariants.{ColumnNotFound
 use Rattle.plan_dsl.specs.Registry.{Registry}
 use Rattle.plan_dsl.specs.Trees.{Trees, node, no_more, more, fold, fold_all, tree_at}
 use Rattle.plan_dsl.specs.Ops.{Expression}
-use Rattle.plan_dsl.specs.Plans.{Named, Work, SelectWork, HStackWork, GroupByWork, FilterWork, SimpleProjectionWork, SliceWork, SortWork, DistinctWork, PassWork, PlanKind, ScanKind, OverKind, RefusedKind, PlanOp, OverInput, Plan, expressions_of}
+use Rattle.plan_dsl.specs.Plans.{Named, Work, SelectWork, HStackWork, GroupByWork, FilterWork, SimpleProjectionWork, SliceWork, SortWork, DistinctWork, PassWork, RechunkPass, FunctionWork, PlanKind, ScanKind, OverKind, RefusedKind, PlanOp, OverInput, Plan, expressions_of}
 use Rattle.plan_dsl.specs.Literals.{settled}
 use Rattle.plan_dsl.specs.declared.signature.Ask.TheVariants.{Sortable}
 use Rattle.plan_dsl.specs.Signatures.{has_flags, is_asked}
 use Rattle.plan_dsl.specs.Drops.{have_names}
+pub use Rattle.plan_dsl.specs.Refusals.{kind_where}
+use Rattle.plan_dsl.specs.TableRules.{function_kinds, function_schema}
 use Rattle.plan_dsl.specs.Typing.{Typed, typing, kinds_in}
-
--- the kind where the test says so
-abbrev pub kind_where : Bool → ErrorKind → List ErrorKind
-kind_where test kind = if test then kind ∷ [] else []
 
 -- the kinds that expressions break over a schema
 abbrev pub all_kinds : Registry → Columns → List (Named Expression) → List ErrorKind
@@ -90,7 +88,7 @@ subset_kinds schema None = []
 subset_kinds schema (Some names) = kind_where (not (have_names schema names)) ColumnNotFound
 
 -- The kinds that a node over an input of the schema breaks, whatever the types of its expressions. Another number of
--- lists than its own, which no query has, breaks a rule too, and so does a drop, which no resolved plan has.
+-- lists than its own, which no query has, breaks a rule too, and so do a drop and a call, which no resolved plan has.
 abbrev pub work_kinds : Work → Columns → List (List Name) → List ErrorKind
 work_kinds SelectWork schema (names ∷ []) = name_kinds Duplicate names
 work_kinds HStackWork schema (names ∷ []) = name_kinds ComputeError names
@@ -101,6 +99,7 @@ work_kinds (SliceWork offset count) schema [] = []
 work_kinds (SortWork descending nulls_last) schema (keys ∷ []) = kind_where (not (has_flags descending nulls_last (length keys))) ComputeError
 work_kinds (DistinctWork keep subset) schema [] = subset_kinds schema subset
 work_kinds (PassWork passing) schema [] = []
+work_kinds (FunctionWork function) schema [] = function_kinds function schema
 work_kinds work schema lists = SchemaMismatch ∷ []
 
 -- The kinds that a node breaks besides those of its expressions, by the schemas of its inputs. Another number of
@@ -165,14 +164,16 @@ work_schema SelectWork schema (outputs ∷ []) = columns_of outputs
 work_schema HStackWork schema (outputs ∷ []) = with_columns schema (columns_of outputs)
 work_schema GroupByWork schema (keys ∷ aggs ∷ []) = columns_of keys ++ aggregate_columns aggs
 work_schema (SimpleProjectionWork columns) schema lists = columns
+work_schema (FunctionWork function) schema lists = function_schema function schema
 work_schema work schema lists = schema
 
--- whether it has its input's schema, so that a lowered plan's node records none
+-- whether it has its input's schema, so that a lowered plan's node records none. A function's node records one, whatever the function
 abbrev pub keeps_schema : Work → Bool
 keeps_schema FilterWork = true
 keeps_schema (SliceWork offset count) = true
 keeps_schema (SortWork descending nulls_last) = true
 keeps_schema (DistinctWork keep subset) = true
+keeps_schema (PassWork RechunkPass) = false
 keeps_schema (PassWork passing) = true
 keeps_schema work = false
 

@@ -1,5 +1,5 @@
 -- The tree of a plan.
-use Rattle.std.specs.Prelude.{◌≡◌, ℕ, ℤ, List, [], ◌∷◌, ◌++◌, map, Option, Some, None, Bool}
+use Rattle.std.specs.Prelude.{ℕ, ℤ, List, [], ◌∷◌, ◌++◌, map, Option, Some, None, Bool, true, false}
 use Rattle.std.specs.List.{flat_map}
 use Rattle.std.specs.Option.{option_map}
 use Rattle.plan_types.specs.Schemas.{Name, Columns, columns}
@@ -7,9 +7,9 @@ use Rattle.plan_types.specs.declared.error.ErrorKind.{ErrorKind}
 use Rattle.plan_dsl.specs.declared.plan.DslPlan.{DslPlan}
 use Rattle.plan_dsl.specs.declared.plan.DslPlan.TheVariants.{Cache', DataFrameScan, Distinct', Filter', GroupBy', HStack', MapFunction', Select', Sink', Slice', Sort'}
 use Rattle.plan_dsl.specs.declared.function.DslFunction.{DslFunction}
-use Rattle.plan_dsl.specs.declared.function.DslFunction.TheVariants.{Drop, FunctionIR as OfFunctionIR}
+use Rattle.plan_dsl.specs.declared.function.DslFunction.TheVariants as dsl
 use Rattle.plan_dsl.specs.declared.function.FunctionIR.{FunctionIR}
-use Rattle.plan_dsl.specs.declared.function.FunctionIR.TheVariants.{Rechunk}
+use Rattle.plan_dsl.specs.declared.function.FunctionIR.TheVariants as ir
 use Rattle.plan_dsl.specs.declared.sort_options.SortMultipleOptions.{SortMultipleOptions}
 use Rattle.plan_dsl.specs.declared.plan.ProjectionOptions.{ProjectionOptions}
 use Rattle.plan_dsl.specs.declared.distinct_options.ColumnNames.{ColumnNames}
@@ -22,23 +22,27 @@ use Rattle.plan_dsl.specs.Names.{Label, label_of}
 use Rattle.plan_dsl.specs.declared.function_expr.FunctionExpr.{FunctionExpr}
 use Rattle.plan_dsl.specs.declared.function_expr.FunctionExpr.TheVariants.{AllHorizontal, FillNull, IsNotNull}
 use Rattle.plan_dsl.specs.Sources.{Plain, Source, WildcardOp}
+use Rattle.plan_dsl.specs.TableFunctions.{TableCall, ExplodeCall, UnpivotCall, RenameCall, UnnestCall, StatsCall, TableFunction, RowIndexFunction, ExplodeFunction, UnpivotFunction, RenameFunction, UnnestFunction}
 
 -- an expression of a node, with its name and what that comes from
 pub record Named (E : Type 0) : Type 0 where
   pub label : Label
   pub expression : E
 
--- what a node does that gives its input's rows as they are: it keeps them under a number, hands them out, or lays them anew
+-- what a node does that gives its input's rows as they are: it keeps them under a number, hands them out, lays them anew, or
+-- does nothing at all, and then no lowered plan has a node for it
 pub data Passing : Type 0 where
   CachePass : (id : ℕ) → Passing
   SinkPass : Passing
   RechunkPass : Passing
+  SamePass : Passing
 
 -- What a node does over its only input, but for its expressions: its flags. No query writes a simple projection. A drop
 -- stands in queries alone, and is resolved to a simple projection of what it leaves. A slice has so many rows from a
 -- place on. A sort has a flag for each key, or one for all; in a query for each expression in place of each key.
 -- A distinct keeps rows once, by their values under some names or as a whole: in a query no names stand in it, but selectors
--- may stand over its input, which are resolved to these.
+-- may stand over its input, which are resolved to these. A function's call stands in queries alone, and is resolved to a function over
+-- names, or to a select of statistics.
 pub data Work : Type 0 where
   SelectWork : Work
   HStackWork : Work
@@ -50,6 +54,8 @@ pub data Work : Type 0 where
   SortWork : (descending nulls_last : List Bool) → Work
   DistinctWork : (keep : UniqueKeepStrategy) (subset : Option (List Name)) → Work
   PassWork : (passing : Passing) → Work
+  FunctionWork : (function : TableFunction) → Work
+  CallWork : (call : TableCall) → Work
 
 -- The kind of a plan's node, over what an expression is: a source expression in a query, a named tree in a plan, a named
 -- node in the arena. A node over one input does its work by lists of expressions. A node of a query that can't be resolved
@@ -187,7 +193,24 @@ source_sink input = source_pass SinkPass input
 
 -- what a function over a frame whose columns are known by name does
 abbrev pub function_work : FunctionIR → Work
-function_work Rechunk = PassWork RechunkPass
+function_work (ir.Explode columns) = FunctionWork (ExplodeFunction columns.items.items)
+function_work ir.Rechunk = PassWork RechunkPass
+function_work (ir.Rename existing new swapping) = FunctionWork (RenameFunction existing.items.items new.items.items swapping)
+function_work (ir.RowIndex name offset) = FunctionWork (RowIndexFunction name offset)
+function_work (ir.Unnest columns) = FunctionWork (UnnestFunction columns.items.items)
+function_work (ir.Unpivot args) = FunctionWork (UnpivotFunction args.on.items.items args.index.items.items args.variable_name args.value_name)
+
+-- whether what it makes of parts of the rows can be put together
+abbrev pub is_streamable : FunctionIR → Bool
+is_streamable ir.Rechunk = false
+is_streamable (ir.RowIndex name offset) = false
+is_streamable function = true
+
+-- whether there may be more rows than before
+abbrev pub expands_rows : FunctionIR → Bool
+expands_rows (ir.Explode columns) = true
+expands_rows (ir.Unpivot args) = true
+expands_rows function = false
 
 -- a call of a function in a query
 abbrev pub source_call : FunctionExpr → List Source → Source
@@ -208,14 +231,27 @@ all_known_values (Some sources) = source_call AllHorizontal (map is_known_value 
 abbrev pub nulls_filled : Source → Source
 nulls_filled value = source_call FillNull (any_column ∷ value ∷ [])
 
+-- what a function of a query does, and its lists of selectors
+abbrev pub call_work : DslFunction → Work
+call_work (dsl.Drop function) = DropWork function.strict
+call_work (dsl.Explode columns allow_empty) = CallWork (ExplodeCall allow_empty)
+call_work (dsl.FunctionIR function) = function_work function
+call_work (dsl.Rename existing new strict) = CallWork (RenameCall existing.items.items new.items.items strict)
+call_work (dsl.RowIndex name offset) = FunctionWork (RowIndexFunction name offset)
+call_work (dsl.Stats statistic) = CallWork (StatsCall statistic)
+call_work (dsl.Unnest columns) = CallWork UnnestCall
+call_work (dsl.Unpivot args) = CallWork (UnpivotCall args.variable_name args.value_name)
+
+abbrev pub call_lists : DslFunction → List (List Source)
+call_lists (dsl.Drop function) = selector_trees function.to_drop ∷ []
+call_lists (dsl.Explode columns allow_empty) = selector_trees columns ∷ []
+call_lists (dsl.Unnest columns) = selector_trees columns ∷ []
+call_lists (dsl.Unpivot args) = selector_trees args.on ∷ selector_trees args.index ∷ []
+call_lists function = []
+
 -- a function over a plan
 abbrev pub source_function : DslFunction → SourcePlan → SourcePlan
-source_function (Drop function) input = source_drop (selector_trees function.to_drop) function.strict input
-source_function (OfFunctionIR function) input = source_over (function_work function) [] input
-
--- two functions do the same over every plan
-abbrev pub IsSameFunction : DslFunction → DslFunction → Type 0
-IsSameFunction function other = (input : SourcePlan) → source_function function input ≡ source_function other input
+source_function function input = source_over (call_work function) (call_lists function) input
 
 -- the tree of a plan, as it is written
 abbrev pub plan_tree : DslPlan → SourcePlan
@@ -252,6 +288,15 @@ pub data PlanOption : Type 0 where
   OrderOption : (maintain_order : Bool) → PlanOption
   HitsOption : (hits : ℕ) → PlanOption
 
+-- the options of a select that statistics are resolved to
+abbrev pub stats_options : ProjectionOptions
+stats_options = record { duplicate_check = false }
+
+-- the option of a function's node, if it has one
+abbrev pub call_option : DslFunction → List PlanOption
+call_option (dsl.Stats statistic) = ProjectionOption stats_options ∷ []
+call_option function = []
+
 -- how often a query's cache is to be read: it doesn't tell, and so no number is greater
 abbrev pub unknown_hits : ℕ
 unknown_hits = 4294967295
@@ -263,7 +308,7 @@ options_in (Select' expr p input options) = ProjectionOption options ∷ options
 options_in (HStack' exprs p input options) = ProjectionOption options ∷ options_in input
 options_in (GroupBy' p input keys aggs maintain_order) = OrderOption maintain_order ∷ options_in input
 options_in (Filter' p input predicate) = options_in input
-options_in (MapFunction' p input function) = options_in input
+options_in (MapFunction' p input function) = call_option function ++ options_in input
 options_in (Sort' p input by_column sort_options) = options_in input
 options_in (Distinct' p input options) = OrderOption options.maintain_order ∷ options_in input
 options_in (Slice' p input offset len) = options_in input

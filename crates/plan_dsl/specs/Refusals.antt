@@ -1,6 +1,10 @@
 -- What comes to something, or is refused by a kind of rule.
-use Rattle.std.specs.Prelude.{List, [], ◌∷◌, ◌++◌, Result, Ok, Err}
+use Rattle.std.specs.Prelude.{List, [], ◌∷◌, ◌++◌, Bool, Result, Ok, Err, if◌then◌else◌}
 use Rattle.plan_types.specs.declared.error.ErrorKind.{ErrorKind}
+
+-- the kind where the test says so
+abbrev pub kind_where : Bool → ErrorKind → List ErrorKind
+kind_where test kind = if test then kind ∷ [] else []
 
 -- goes on with what was found, unless it is refused
 abbrev pub then_ok : {A B K : Type 0} → Result A K → (A → Result B K) → Result B K

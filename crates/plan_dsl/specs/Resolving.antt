@@ -9,13 +9,14 @@ use Rattle.plan_types.specs.declared.error.ErrorKind.{ErrorKind}
 use Rattle.plan_dsl.specs.Registry.{Registry}
 use Rattle.plan_dsl.specs.Trees.{Trees, node, no_more, more}
 use Rattle.plan_dsl.specs.Ops.{Expression}
-use Rattle.plan_dsl.specs.Plans.{Work, GroupByWork, FilterWork, SimpleProjectionWork, DropWork, SortWork, DistinctWork, PlanKind, ScanKind, OverKind, RefusedKind, PlanOp, Plan, Named, named, SourcePlan}
+use Rattle.plan_dsl.specs.Plans.{Work, GroupByWork, FilterWork, SimpleProjectionWork, DropWork, SortWork, DistinctWork, CallWork, PlanKind, ScanKind, OverKind, RefusedKind, PlanOp, Plan, Named, named, SourcePlan}
 use Rattle.plan_dsl.specs.Sources.{Source, written}
 use Rattle.plan_dsl.specs.Refusals.{then_ok, with_kinds}
 use Rattle.plan_dsl.specs.Expansion.{expansions, key_names, predicate_expansion}
 use Rattle.plan_dsl.specs.Markers.{names_of_selectors}
 use Rattle.plan_dsl.specs.Drops.{drop_leaves}
 use Rattle.plan_dsl.specs.SortFlags.{sort_flags}
+use Rattle.plan_dsl.specs.TableCalls.{called_lists, called_work}
 use Rattle.plan_dsl.specs.PlanRules.{schemas_of}
 
 -- aggregates behind keys that were expanded: what their markers stand for leaves out the keys that are plain columns
@@ -37,6 +38,7 @@ expanded_lists schema GroupByWork (keys ∷ aggs ∷ []) = then_ok (expansions [
 expanded_lists schema FilterWork ((source ∷ []) ∷ []) = then_ok (with_kinds (predicate_expansion schema source)) (λ tree. Ok ((tree ∷ []) ∷ []))
 expanded_lists schema (DropWork strict) lists = Ok []
 expanded_lists schema (DistinctWork keep None) (selectors ∷ []) = Ok []
+expanded_lists schema (CallWork call) lists = Ok (called_lists schema call)
 expanded_lists schema work lists = expanded_each schema lists
 
 -- what a node over an input of the schema does, resolved
@@ -44,6 +46,7 @@ abbrev pub resolved_work : Columns → Work → List (List Source) → Result Wo
 resolved_work schema (DropWork strict) (selectors ∷ []) = then_ok (drop_leaves schema selectors strict) (λ columns. Ok (SimpleProjectionWork columns))
 resolved_work schema (SortWork descending nulls_last) (by ∷ []) = then_ok (sort_flags schema by descending nulls_last) (λ flags. Ok (SortWork flags.0 flags.1))
 resolved_work schema (DistinctWork keep None) (selectors ∷ []) = then_ok (names_of_selectors schema selectors) (λ names. Ok (DistinctWork keep (Some names)))
+resolved_work schema (CallWork call) lists = called_work schema call lists
 resolved_work schema work lists = Ok work
 
 -- a node's work over expanded expressions, each under its own name

@@ -1,21 +1,24 @@
 //! Plans that are built call by call.
-ghost use Rattle.std.specs.Prelude.{◌≡◌, ◌<◌, [], ◌∷◌, map, vec_len, false, IfOk, IfErr};
+ghost use Rattle.std.specs.Prelude.{◌≡◌, ◌<◌, ◌++◌, [], ◌∷◌, map, vec_len, false, IfOk, IfErr};
 ghost use Rattle.std.specs.Option.{option_map};
 ghost use Rattle.plan_types.specs.Errors.{no_memory};
 ghost use Rattle.plan_types.specs.Schemas.{columns};
 ghost use Rattle.plan_dsl.specs.Expressions.{selector_tree, selector_trees, tree_of};
-ghost use Rattle.plan_dsl.specs.Plans.{HitsOption, OrderOption, ProjectionOption, all_known_values, any_column, is_known_value, nulls_filled, source_call, plan_tree, options_in, scan_op, source_cache, source_distinct, source_drop, source_filter, source_function, source_group_by, source_hstack, source_select, source_slice, source_sort, unknown_hits};
+ghost use Rattle.plan_dsl.specs.Plans.{CallWork, FunctionWork, HitsOption, OrderOption, ProjectionOption, all_known_values, any_column, call_option, is_known_value, nulls_filled, source_call, plan_tree, options_in, scan_op, source_cache, source_distinct, source_drop, source_filter, source_function, source_group_by, source_hstack, source_over, source_select, source_slice, source_sort, stats_options, unknown_hits};
+ghost use Rattle.plan_dsl.specs.TableFunctions.{ExplodeCall, RenameCall, RowIndexFunction, StatsCall, UnnestCall, UnpivotCall};
 ghost use Rattle.plan_dsl.specs.Trees.{node, no_more};
 
-use crate::distinct_options::DistinctOptionsDSL;
+use crate::distinct_options::{ColumnNames, DistinctOptionsDSL};
 use crate::expr::{Expr, Exprs};
-use crate::function::{DropFunction, DslFunction};
+use crate::function::{DropFunction, DslFunction, StatsFunction};
 use crate::function_expr::FunctionExpr;
 use crate::plan::{DslPlan, ProjectionOptions};
 use crate::selector::{Selector, Selectors};
 use crate::sort_options::SortMultipleOptions;
+use crate::unpivot_args::UnpivotArgsDSL;
 use plan_types::error::PlanError;
 use plan_types::schema::Schema;
+use plan_types::text::PlSmallStr;
 use std::alloc::Global;
 
 /// A plan to build on: each call puts its node over the plan.
@@ -222,7 +225,7 @@ impl DslBuilder {
     /// What a function makes of the plan's frame.
     pub fn map_private(self, alloc: Global, function: DslFunction) -> Result<DslBuilder, PlanError>
         ensures ok { IfOk result (λ built. plan_tree built.0 ≡ source_function function (plan_tree self.0)) }
-        ensures options { IfOk result (λ built. options_in built.0 ≡ options_in self.0) }
+        ensures options { IfOk result (λ built. options_in built.0 ≡ call_option function ++ options_in self.0) }
         ensures err { IfErr result (λ error. error ≡ no_memory) }
     {
         let input = Box::new(alloc, self.0)?;
@@ -246,6 +249,89 @@ impl DslBuilder {
             input,
             function: DslFunction::Drop(DropFunction { to_drop, strict }),
         }))
+    }
+
+    /// A row for each item of the lists of the columns that the selectors name. There must be one, unless it is allowed that
+    /// there is none: then it is the frame.
+    pub fn explode(
+        self,
+        alloc: Global,
+        columns: Vec<Selector>,
+        allow_empty: bool,
+    ) -> Result<DslBuilder, PlanError>
+        ensures ok { IfOk result (λ built. plan_tree built.0 ≡ source_over (CallWork (ExplodeCall allow_empty)) (map selector_tree columns.items ∷ []) (plan_tree self.0)) }
+        ensures options { IfOk result (λ built. options_in built.0 ≡ options_in self.0) }
+        ensures err { IfErr result (λ error. error ≡ no_memory) }
+    {
+        let columns = Selectors { items: columns };
+        let function = DslFunction::Explode {
+            columns,
+            allow_empty,
+        };
+        self.map_private(alloc, function)
+    }
+
+    /// The values of columns below each other.
+    pub fn unpivot(self, alloc: Global, args: UnpivotArgsDSL) -> Result<DslBuilder, PlanError>
+        ensures ok { IfOk result (λ built. plan_tree built.0 ≡ source_over (CallWork (UnpivotCall args.variable_name args.value_name)) (selector_trees args.on ∷ selector_trees args.index ∷ []) (plan_tree self.0)) }
+        ensures options { IfOk result (λ built. options_in built.0 ≡ options_in self.0) }
+        ensures err { IfErr result (λ error. error ≡ no_memory) }
+    {
+        self.map_private(alloc, DslFunction::Unpivot { args })
+    }
+
+    /// The rows behind their numbers, which are counted from the offset on, or from 0, and wrap around in 32 bits.
+    pub fn row_index(
+        self,
+        alloc: Global,
+        name: PlSmallStr,
+        offset: Option<u32>,
+    ) -> Result<DslBuilder, PlanError>
+        ensures ok { IfOk result (λ built. plan_tree built.0 ≡ source_over (FunctionWork (RowIndexFunction name offset)) [] (plan_tree self.0)) }
+        ensures options { IfOk result (λ built. options_in built.0 ≡ options_in self.0) }
+        ensures err { IfErr result (λ error. error ≡ no_memory) }
+    {
+        self.map_private(alloc, DslFunction::RowIndex { name, offset })
+    }
+
+    /// The columns under new names, by place. Where it is strict, each of the old names must stand.
+    pub fn rename(
+        self,
+        alloc: Global,
+        existing: Vec<PlSmallStr>,
+        new: Vec<PlSmallStr>,
+        strict: bool,
+    ) -> Result<DslBuilder, PlanError>
+        ensures ok { IfOk result (λ built. plan_tree built.0 ≡ source_over (CallWork (RenameCall existing.items new.items strict)) [] (plan_tree self.0)) }
+        ensures options { IfOk result (λ built. options_in built.0 ≡ options_in self.0) }
+        ensures err { IfErr result (λ error. error ≡ no_memory) }
+    {
+        let existing = ColumnNames { items: existing };
+        let new = ColumnNames { items: new };
+        let function = DslFunction::Rename {
+            existing,
+            new,
+            strict,
+        };
+        self.map_private(alloc, function)
+    }
+
+    /// The fields of structs in place of the columns that the selectors name.
+    pub fn unnest(self, alloc: Global, columns: Vec<Selector>) -> Result<DslBuilder, PlanError>
+        ensures ok { IfOk result (λ built. plan_tree built.0 ≡ source_over (CallWork UnnestCall) (map selector_tree columns.items ∷ []) (plan_tree self.0)) }
+        ensures options { IfOk result (λ built. options_in built.0 ≡ options_in self.0) }
+        ensures err { IfErr result (λ error. error ≡ no_memory) }
+    {
+        self.map_private(alloc, DslFunction::Unnest(Selectors { items: columns }))
+    }
+
+    /// One row, with a statistic of each column that has one, and else a null.
+    pub fn stats(self, alloc: Global, statistic: StatsFunction) -> Result<DslBuilder, PlanError>
+        ensures ok { IfOk result (λ built. plan_tree built.0 ≡ source_over (CallWork (StatsCall statistic)) [] (plan_tree self.0)) }
+        ensures options { IfOk result (λ built. options_in built.0 ≡ ProjectionOption stats_options ∷ options_in self.0) }
+        ensures err { IfErr result (λ error. error ≡ no_memory) }
+    {
+        self.map_private(alloc, DslFunction::Stats(statistic))
     }
 
     /// The plan.

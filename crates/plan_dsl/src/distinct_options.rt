@@ -50,7 +50,7 @@ impl DistinctOptionsDSL {
 }
 
 /// Names of columns, in order.
-#[derive(Drop)]
+#[derive(Drop, PartialEq, Eq, Hash)]
 pub struct ColumnNames {
     pub items: Vec<PlSmallStr>,
 }

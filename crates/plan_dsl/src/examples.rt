@@ -32,6 +32,7 @@ pub mod signatures;
 pub mod sorts;
 pub mod sources;
 pub mod strictness;
+pub mod table_functions;
 pub mod ternaries;
 pub mod texts_and_times;
 pub mod time_arithmetic;

@@ -3,6 +3,7 @@ ghost use Rattle.plan_types.specs.Frames.{Row};
 ghost use Rattle.plan_dsl.specs.FrameRowLaws.{SlicesArePartsOfRows, LongSlicesAreAllRows, OffsetsCountFromTheEnd, AllRowsFromTheEndAreTheFront, SortsHaveTheRows, SortsPutRowsInOrder, RowsAreKeptOnce, FirstRowsStandInOrder, AnyRowIsTheFirst, OneRowIsKeptOfOneKey};
 ghost use Rattle.plan_dsl.specs.GroupLaws.{EachIsInOneGroup, ItemsGoToTheEnd};
 ghost use Rattle.plan_dsl.specs.Laws.{TypedBreaksNothing, RefusalIsBroken, BrokenIsIllFormed, NoSchemaIsBroken, MeaningHasSchema, WrittenIsExpanded, PlainIsWritten, WrittenIsPlain, SameSourcesAreOne, ListsAreExpandedApart, MarkersNameOnce, SelectorsNameOnce, UnresolvedIsTold, PlacesStay, ResolvedBreaksNothing, NothingIsToldAboveARefusal, ScansStay, QueryHasSchema, OwnColumnsGiveTheFrame, DropsHaveSchemas, SortsHaveFlags};
+ghost use Rattle.plan_dsl.specs.TableLaws.{ExplodesHaveTheItems, IndexesChangeNoOtherColumn, OneColumnExplodes, OtherNamesStay, RenamesCanBeUndone, RenamesKeepRowsAndTypes, RowsAreNumbered, TheLastNameCounts, UnpivotsGiveARowForEachValue, UnpivotsGoColumnByColumn, UnpivotsKeepValuesOfTheType};
 
 /// What is typed breaks no rule, what is refused breaks the rule that the refusal names, and a plan in
 /// which a rule is broken at some place is not well formed. A node without a schema, whose inputs have one,
@@ -66,4 +67,27 @@ pub fn row_laws()
     ensures first { FirstRowsStandInOrder }
     ensures any { AnyRowIsTheFirst }
     ensures one_key { OneRowIsKeptOfOneKey }
+{}
+
+/// A row index puts its number in front of each row, counted from an offset on, and changes no other column. An unpivot has a
+/// row for each row and each column of values, those of one column behind those of another, and a value that is of the common
+/// type stays. A rename changes names alone, and of these only the given ones; of two new names for one the later counts. One
+/// of names that stand, none of them twice, is undone by a rename the other way round.
+pub fn table_row_laws()
+    ensures numbered { RowsAreNumbered }
+    ensures others { IndexesChangeNoOtherColumn }
+    ensures each_value { UnpivotsGiveARowForEachValue }
+    ensures by_column { UnpivotsGoColumnByColumn }
+    ensures values { UnpivotsKeepValuesOfTheType }
+    ensures renamed { RenamesKeepRowsAndTypes }
+    ensures other_names { OtherNamesStay }
+    ensures last_name { TheLastNameCounts }
+    ensures undone { RenamesCanBeUndone }
+{}
+
+/// A column of lists explodes as it does alone, and the row's own values stand beside its items. An explode of one column has
+/// no fault, and makes as many rows of each row as its value explodes to.
+pub fn explode_laws()
+    ensures items { ExplodesHaveTheItems }
+    ensures one_column { OneColumnExplodes }
 {}

@@ -1,11 +1,11 @@
 -- The names of markers and of selectors, as the code makes them.
-use Rattle.std.proofs.Common.{◌≡◌, ◌<◌, ◌+◌, ℕ, ℤ, List, [], ◌∷◌, ◌++◌, map, drop, length, slice_get, Some, None, Bool, true, false, cond, not, ◌&&◌, ◌||◌, Result, Ok, Err, refl, sym, ap, ◌∙◌, append_assoc, arith}
+use Rattle.std.proofs.Common.{◌≡◌, ◌+◌, ℕ, ℤ, List, [], ◌∷◌, ◌++◌, map, drop, slice_get, Some, None, Bool, true, false, cond, not, ◌&&◌, ◌||◌, Result, Ok, Err, refl, sym, ap, ◌∙◌, append_assoc}
 use Rattle.std.specs.Global.{Box, Vec}
 use Rattle.std.specs.List.{filter, flat_map, list_any}
 use Rattle.std.specs.Option.{option_map_or}
 use Rattle.std.proofs.lemmas.Bool.{cond-true}
 use Rattle.std.proofs.lemmas.List.Elements.{filter_agree}
-use Rattle.std.proofs.lemmas.Option.{slice_get_within, slice_get-get_or, get_or_from_slice_get}
+use Rattle.std.proofs.lemmas.Option.{slice_get_within, get_or_from_slice_get}
 use Rattle.plan_types.proofs.ListLemmas.{item_left}
 use Rattle.plan_types.specs.Errors.{IsRefusal, no_room, broken}
 use Rattle.plan_types.specs.Schemas.{Name, Columns, same_name, is_among, names_of, type_at}
@@ -52,10 +52,6 @@ pub wanted_at : (keys : List Name) (types : List Ty) (done new : List Name) (who
 wanted_at keys types done new whole i column answer at is before =
     sym (wanted_first keys types done new column (drop (i + 1) whole) is)
     ∙ sym (ap (λ l. done ++ without keys (names_of_types l types)) (item_left whole i column column (slice_get_within whole i column at) (sym (get_or_from_slice_get whole i column column at)))) ∙ before
-
-pub column_there : (whole : Columns) (i : ℕ) → i < length whole → slice_get whole i ≡ None → ⊥
-column_there [] i within none = omega arith
-column_there (column ∷ whole) i within none = let found = slice_get-get_or (column ∷ whole) i column within in cc
 
 -- ---- what is excluded
 

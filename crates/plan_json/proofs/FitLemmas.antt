@@ -1,7 +1,7 @@
 -- What is read fits what was asked, and what a key or a list of places asks.
 use Rattle.plan_json.proofs.Names.{List, Option, Some, [], ap, length, map, option_and_then, option_map, refl, subst, suc, sym, true, ℕ, ◌∙◌, ◌∷◌, ◌≡◌, ◌&&◌, arith, take, zero, Data, Items, array, item, member, no_items, no_members, object, as_null, text_of, type_of, columns_of, table_at, operator_of, mode_of, Declared, AllFit, Asked, Fits, Read, a_form, all_fit, asked_in, asks, columns_read, expression, expression_read, expression_rows, expression_says, fits, flag_read, key_named, leaf, list_read, literal_read, many, mode_read, name_read, nothing_read, operator_read, place_view, places_view, plan_rows, reads_of, row_named, says, table_read, type_read, each_as, leaf_of, list_as, places_as, read_as, these_as, Kind, Key, same_Some}
-use Rattle.plan_json.specs.Forms.{Reads, excluded_read, function_read, index_read, keep_read, kind_of, listed_leaf, method_read, natural_read, no_order, optional, order, order_items, order_says, plan_read, plan_says, selector, selector_read, selector_rows, selector_says}
-use Rattle.plan_json.specs.Leaves.{excluded_item, function_of, index_of, keep_of, natural_of, literal_written, method_of}
+use Rattle.plan_json.specs.Forms.{Reads, excluded_read, function_read, index_read, keep_read, kind_of, listed_leaf, method_read, natural_read, optional_name_read, optional_natural_read, statistic_read, no_order, optional, order, order_items, order_says, plan_read, plan_says, selector, selector_read, selector_rows, selector_says}
+use Rattle.plan_json.specs.Leaves.{excluded_item, function_of, index_of, keep_of, natural_of, optional_natural_of, optional_text_of, statistic_of, literal_written, method_of}
 use Rattle.plan_json.specs.declared.forms.Kind.TheVariants as kinds
 use Rattle.plan_json.specs.declared.forms.Key.TheVariants as keys
 use Rattle.plan_json.specs.declared.forms.Leaf.{Leaf}
@@ -31,6 +31,7 @@ leaf_fits tables leaves.Table d r e = made_fits (leaf leaves.Table) (λ table. t
 leaf_fits tables leaves.Columns d r e = made_fits (leaf leaves.Columns) columns_read (λ x. refl) (columns_of d) r e
 leaf_fits tables leaves.Excluded d r e = made_fits (leaf leaves.Excluded) excluded_read (λ x. refl) (excluded_item d) r e
 leaf_fits tables leaves.Function d r e = made_fits (leaf leaves.Function) function_read (λ x. refl) (function_of d) r e
+leaf_fits tables leaves.OptionalName d r e = made_fits (leaf leaves.OptionalName) optional_name_read (λ x. refl) (optional_text_of d) r e
 leaf_fits tables (leaves.Small smalls.Operator) d r e = made_fits (leaf (leaves.Small smalls.Operator)) operator_read (λ x. refl) (operator_of d) r e
 leaf_fits tables (leaves.Small smalls.Method) d r e = made_fits (leaf (leaves.Small smalls.Method)) method_read (λ x. refl) (method_of d) r e
 leaf_fits tables (leaves.Small smalls.Mode) d r e = made_fits (leaf (leaves.Small smalls.Mode)) mode_read (λ x. refl) (mode_of d) r e
@@ -38,7 +39,9 @@ leaf_fits tables (leaves.Small smalls.Nothing) d r e = made_fits (leaf (leaves.S
 leaf_fits tables (leaves.Small smalls.Flag) d r e = made_fits (leaf (leaves.Small smalls.Flag)) flag_read (λ x. refl) (as_bool d) r e
 leaf_fits tables (leaves.Small smalls.Index) d r e = made_fits (leaf (leaves.Small smalls.Index)) index_read (λ x. refl) (index_of d) r e
 leaf_fits tables (leaves.Small smalls.Natural) d r e = made_fits (leaf (leaves.Small smalls.Natural)) natural_read (λ x. refl) (natural_of d) r e
+leaf_fits tables (leaves.Small smalls.OptionalNatural) d r e = made_fits (leaf (leaves.Small smalls.OptionalNatural)) optional_natural_read (λ x. refl) (optional_natural_of d) r e
 leaf_fits tables (leaves.Small smalls.Keep) d r e = made_fits (leaf (leaves.Small smalls.Keep)) keep_read (λ x. refl) (keep_of d) r e
+leaf_fits tables (leaves.Small smalls.Statistic) d r e = made_fits (leaf (leaves.Small smalls.Statistic)) statistic_read (λ x. refl) (statistic_of d) r e
 
 said_fits : (key : Key) (rs : List Read) (r : Read) → says key rs ≡ Some r → Fits (a_form (kind_of key)) r
 said_fits (keys.Expression key) rs r e = made_fits expression expression_read (λ x. refl) (expression_says key rs) r e

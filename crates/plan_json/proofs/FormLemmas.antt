@@ -7,8 +7,10 @@ use Rattle.plan_dsl.specs.declared.marker.Excluded.{Excluded}
 use Rattle.plan_types.specs.declared.dtype.DataType.{DataType}
 use Rattle.plan_json.specs.Forms.{excluded_in, excluded_read, function_read, index_read, indexes_in, keep_read, names_in, optional, plan_read, plan_says, subset_read, order, order_items, order_read, order_says, selector_read, selectors_in, types_in}
 use Rattle.plan_json.specs.Queries.{has_flags, list_as}
-use Rattle.plan_dsl.specs.Plans.{HitsOption, OrderOption, PlanOption, ProjectionOption, SourcePlan, options_in, source_distinct}
+use Rattle.plan_dsl.specs.Plans.{HitsOption, OrderOption, PlanOption, ProjectionOption, SourcePlan, call_option, options_in, source_distinct}
 use Rattle.plan_dsl.specs.declared.distinct_options.UniqueKeepStrategy.{UniqueKeepStrategy}
+use Rattle.plan_dsl.specs.declared.function.DslFunction.{DslFunction}
+use Rattle.plan_dsl.specs.declared.function.DslFunction.TheVariants.{Stats}
 use Rattle.plan_json.specs.declared.forms.PlanKey.TheVariants as by
 use Rattle.plan_dsl.specs.declared.plan.DslPlan.{DslPlan}
 use Rattle.plan_dsl.specs.declared.plan.DslPlan.TheVariants.{Cache', DataFrameScan, Distinct', Filter', GroupBy', HStack', MapFunction', Select', Sink', Slice', Sort'}
@@ -172,21 +174,22 @@ these_read tables (p ∷ ps) (item d ds) (r ∷ rs) count room each =
     ap (λ o. front o (these_as tables ps ds)) (first.read p d refl refl) ∙ ap (front (Some r)) rest
 these_read tables _ _ _ count room each = absurd (omega (arith, count, room))
 
-one_of_four : (tables : Declared) (ps : List Asked) (ds : Items) (a b c e : Read) → IsItem tables ps ds 0 a → IsItem tables ps ds 1 b → IsItem tables ps ds 2 c → IsItem tables ps ds 3 e → (n : ℕ) (r : Read) → slice_get (a ∷ b ∷ c ∷ e ∷ []) n ≡ Some r → IsItem tables ps ds n r
-one_of_four tables ps ds a b c e first second third fourth zero r at = let same : a ≡ r = cc in subst (IsItem tables ps ds 0) same first
-one_of_four tables ps ds a b c e first second third fourth (suc zero) r at = let same : b ≡ r = cc in subst (IsItem tables ps ds 1) same second
-one_of_four tables ps ds a b c e first second third fourth (suc (suc zero)) r at = let same : c ≡ r = cc in subst (IsItem tables ps ds 2) same third
-one_of_four tables ps ds a b c e first second third fourth (suc (suc (suc zero))) r at = let same : e ≡ r = cc in subst (IsItem tables ps ds 3) same fourth
-one_of_four tables ps ds a b c e first second third fourth (suc (suc (suc (suc n)))) r at = cc
+one_of_five : (tables : Declared) (ps : List Asked) (ds : Items) (a b c e f : Read) → IsItem tables ps ds 0 a → IsItem tables ps ds 1 b → IsItem tables ps ds 2 c → IsItem tables ps ds 3 e → IsItem tables ps ds 4 f → (n : ℕ) (r : Read) → slice_get (a ∷ b ∷ c ∷ e ∷ f ∷ []) n ≡ Some r → IsItem tables ps ds n r
+one_of_five tables ps ds a b c e f first second third fourth fifth zero r at = let same : a ≡ r = cc in subst (IsItem tables ps ds 0) same first
+one_of_five tables ps ds a b c e f first second third fourth fifth (suc zero) r at = let same : b ≡ r = cc in subst (IsItem tables ps ds 1) same second
+one_of_five tables ps ds a b c e f first second third fourth fifth (suc (suc zero)) r at = let same : c ≡ r = cc in subst (IsItem tables ps ds 2) same third
+one_of_five tables ps ds a b c e f first second third fourth fifth (suc (suc (suc zero))) r at = let same : e ≡ r = cc in subst (IsItem tables ps ds 3) same fourth
+one_of_five tables ps ds a b c e f first second third fourth fifth (suc (suc (suc (suc zero)))) r at = let same : f ≡ r = cc in subst (IsItem tables ps ds 4) same fifth
+one_of_five tables ps ds a b c e f first second third fourth fifth (suc (suc (suc (suc (suc n))))) r at = cc
 
-pub four_read : (tables : Declared) (places : List Place) (vs : List Value) (a b c e : Read) → length vs ≡ length places → length places ≤ 4 → let ps = map place_view places in let ds = items_view vs in
-    IsItem tables ps ds 0 a → IsItem tables ps ds 1 b → IsItem tables ps ds 2 c → IsItem tables ps ds 3 e → these_as tables ps ds ≡ Some (take (length places) (a ∷ b ∷ c ∷ e ∷ []))
-four_read tables places vs a b c e count short first second third fourth =
+pub five_read : (tables : Declared) (places : List Place) (vs : List Value) (a b c e f : Read) → length vs ≡ length places → length places ≤ 5 → let ps = map place_view places in let ds = items_view vs in
+    IsItem tables ps ds 0 a → IsItem tables ps ds 1 b → IsItem tables ps ds 2 c → IsItem tables ps ds 3 e → IsItem tables ps ds 4 f → these_as tables ps ds ≡ Some (take (length places) (a ∷ b ∷ c ∷ e ∷ f ∷ []))
+five_read tables places vs a b c e f count short first second third fourth fifth =
     let ps = map place_view places in
     let ds = items_view vs in
     let same : length ps ≡ length places = length-map places place_view in
-    these_read tables ps ds (a ∷ b ∷ c ∷ e ∷ []) (items_len-items_view vs ∙ count ∙ sym same) (subst (λ n. n ≤ 4) (sym same) short) (one_of_four tables ps ds a b c e first second third fourth)
-    ∙ ap (λ n. Some (take n (a ∷ b ∷ c ∷ e ∷ []))) same
+    these_read tables ps ds (a ∷ b ∷ c ∷ e ∷ f ∷ []) (items_len-items_view vs ∙ count ∙ sym same) (subst (λ n. n ≤ 5) (sym same) short) (one_of_five tables ps ds a b c e f first second third fourth fifth)
+    ∙ ap (λ n. Some (take n (a ∷ b ∷ c ∷ e ∷ f ∷ []))) same
 
 -- the item of a number, by the place of that number
 pub item_read : (tables : Declared) (places : List Place) (vs : List Value) (n : ℕ) (p : Place) (v : Value) (r : Read) → length vs ≡ length places → n < length places → v ≡ get_or vs n v
@@ -230,13 +233,18 @@ abbrev any_sets : List PlanOption → Bool
 any_sets [] = false
 any_sets (option ∷ options) = sets option || any_sets options
 
+-- a function has no option that is set
+unset_call : (function : DslFunction) (options : List PlanOption) → any_sets (call_option function ++ options) ≡ any_sets options
+unset_call (Stats statistic) options = refl
+unset_call _ options = refl
+
 flags_in_options : (plan : DslPlan) → has_flags plan ≡ any_sets (options_in plan)
 flags_in_options (DataFrameScan table schema) = refl
 flags_in_options (Select' expr p input options) = ap (λ b. options.duplicate_check || b) (flags_in_options input)
 flags_in_options (HStack' exprs p input options) = ap (λ b. options.duplicate_check || b) (flags_in_options input)
 flags_in_options (GroupBy' p input keys aggs maintain_order) = ap (λ b. maintain_order || b) (flags_in_options input)
 flags_in_options (Filter' p input predicate) = flags_in_options input
-flags_in_options (MapFunction' p input function) = flags_in_options input
+flags_in_options (MapFunction' p input function) = flags_in_options input ∙ sym (unset_call function (options_in input))
 flags_in_options (Sort' p input by_column sort_options) = flags_in_options input
 flags_in_options (Distinct' p input options) = ap (λ b. options.maintain_order || b) (flags_in_options input)
 flags_in_options (Slice' p input offset len) = flags_in_options input

@@ -12,6 +12,7 @@ pub mod NameLemmas
 pub mod Names
 pub mod NoFaults
 pub mod OnLiterals
+pub mod OptionalLemmas
 pub mod ReaderLemmas
 pub mod TextTests
 pub mod WordLemmas

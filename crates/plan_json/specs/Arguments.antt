@@ -6,10 +6,10 @@ use Rattle.plan_dsl.specs.Expressions.{excluded_of, order_trees, selector_tree, 
 use Rattle.plan_dsl.specs.Literals.{literal_op}
 use Rattle.plan_dsl.specs.Plans.{plan_tree}
 use Rattle.plan_dsl.specs.declared.plan.DslPlan.{DslPlan}
-use Rattle.plan_json.specs.Forms.{Read, name_read, literal_read, operator_read, method_read, function_read, type_read, mode_read, table_read, columns_read, expression_read, selector_read, plan_read, many_read, chosen_read, leaves_read, reads_of, other_read, nothing_read, flag_read, index_read, natural_read, keep_read, excluded_read, order_read}
+use Rattle.plan_json.specs.Forms.{Read, name_read, literal_read, operator_read, method_read, function_read, type_read, mode_read, table_read, columns_read, expression_read, selector_read, plan_read, many_read, chosen_read, leaves_read, reads_of, other_read, nothing_read, flag_read, index_read, natural_read, keep_read, optional_name_read, optional_natural_read, statistic_read, excluded_read, order_read}
 use Rattle.plan_json.specs.Queries.{has_flags}
 use Rattle.plan_json.specs.declared.arguments.Arg.{Arg}
-use Rattle.plan_json.specs.declared.arguments.Arg.TheVariants.{Name, Literal, Operator, Method, Function, Dtype, Mode, Table, Columns, Nothing, Flag, Index, Natural, Keep, Excluded, Order, Expression, Selector, Plan, Expressions, Selectors, Names, Dtypes, Flags, Indexes, AllExcluded}
+use Rattle.plan_json.specs.declared.arguments.Arg.TheVariants.{Name, OptionalName, Literal, Operator, Method, Function, Dtype, Mode, Table, Columns, Nothing, Flag, Index, Natural, OptionalNatural, Keep, Statistic, Excluded, Order, Expression, Selector, Plan, Expressions, Selectors, Names, Dtypes, Flags, Indexes, AllExcluded}
 use Rattle.plan_json.specs.declared.arguments.Items.{Items}
 use Rattle.plan_json.specs.declared.forms.Leaf.TheVariants as leaves
 use Rattle.plan_json.specs.declared.forms.SmallLeaf.TheVariants as smalls
@@ -21,6 +21,7 @@ plan_seen plan = if has_flags plan then other_read else plan_read (plan_tree pla
 
 abbrev pub arg_view : Arg → Read
 arg_view (Name name) = name_read name.value
+arg_view (OptionalName name) = optional_name_read name.value
 arg_view (Literal literal) = literal_read (literal_op literal.value)
 arg_view (Operator operator) = operator_read operator
 arg_view (Method method) = method_read method
@@ -33,7 +34,9 @@ arg_view Nothing = nothing_read
 arg_view (Flag flag) = flag_read flag
 arg_view (Index index) = index_read index
 arg_view (Natural natural) = natural_read natural
+arg_view (OptionalNatural natural) = optional_natural_read natural
 arg_view (Keep keep) = keep_read keep
+arg_view (Statistic statistic) = statistic_read statistic
 arg_view (Excluded excluded) = excluded_read (excluded_of excluded.value)
 arg_view (Order order) = order_read (way_of order) (order_trees order)
 arg_view (Expression expr) = expression_read (tree_of expr.value)
@@ -48,7 +51,7 @@ arg_view (Indexes indexes) = leaves_read (leaves.Small smalls.Index) (reads_of (
 arg_view (AllExcluded excluded) = leaves_read leaves.Excluded (reads_of (map (λ item. excluded_read (excluded_of item)) excluded.value.items))
 
 abbrev pub items_seen : Items → List Read
-items_seen items = take items.count (arg_view items.first ∷ arg_view items.second ∷ arg_view items.third ∷ arg_view items.fourth ∷ [])
+items_seen items = take items.count (arg_view items.first ∷ arg_view items.second ∷ arg_view items.third ∷ arg_view items.fourth ∷ arg_view items.fifth ∷ [])
 
 abbrev pub args_view : Args → List Read
 args_view (args.One a) = arg_view a ∷ []

@@ -10,7 +10,7 @@ use Rattle.serde_json.specs.Find.{as_str, as_array, as_bool, as_null, at, get_it
 use Rattle.plan_types.specs.Schemas.{Name, is_among, repeats}
 use Rattle.plan_types.specs.Types.{Ty, is_counted}
 use Rattle.plan_json.specs.Forms.{Asked, a_form, leaf, many, order, optional, order_items, Places, single, listed, asks, key_named, row_named, type_rows, excluded_rows}
-use Rattle.plan_json.specs.Leaves.{index_of, keep_of, natural_of, text_of, type_named, type_of, unit_of, literal_of, number_text_of, counted_of, number_of, operator_of, method_of, function_of, mode_of, column_name, table_name, table_limit}
+use Rattle.plan_json.specs.Leaves.{index_of, keep_of, natural_of, optional_natural_of, optional_text_of, statistic_of, text_of, type_named, type_of, unit_of, literal_of, number_text_of, counted_of, number_of, operator_of, method_of, function_of, mode_of, column_name, table_name, table_limit}
 use Rattle.plan_json.specs.Looking.{both, is_float, only_member, two_members, two_items, some_of, first_items}
 use Rattle.plan_json.specs.declared.forms.Kind.{Kind}
 use Rattle.plan_json.specs.declared.forms.Kind.TheVariants as kinds
@@ -48,7 +48,7 @@ Path = List Step
 pub data Form : Type 0 where
   a_query table_list column_list field_list a_column a_type a_unit a_text : Form
   a_table a_new_name a_scan : List Name → Form
-  a_literal a_number_text a_typed_literal a_counted_type an_operator a_method a_function a_mode nothing_form flag_form an_index a_natural a_keep an_excluded : Form
+  a_literal a_number_text a_typed_literal a_counted_type an_operator a_method a_function a_mode nothing_form flag_form an_index a_natural an_optional_natural an_optional_text a_keep a_statistic an_excluded : Form
   a_number_of : Ty → Form
   -- an object of one key, which names a form of the kind
   keyed_form : List Name → Kind → Form
@@ -104,7 +104,9 @@ small_form smalls.Nothing = nothing_form
 small_form smalls.Flag = flag_form
 small_form smalls.Index = an_index
 small_form smalls.Natural = a_natural
+small_form smalls.OptionalNatural = an_optional_natural
 small_form smalls.Keep = a_keep
+small_form smalls.Statistic = a_statistic
 
 -- what has no forms
 abbrev pub leaf_form : List Name → Leaf → Form
@@ -115,6 +117,7 @@ leaf_form names leaves.Table = a_scan names
 leaf_form names leaves.Columns = column_list
 leaf_form names leaves.Excluded = an_excluded
 leaf_form names leaves.Function = a_function
+leaf_form names leaves.OptionalName = an_optional_text
 leaf_form names (leaves.Small which) = small_form which
 
 abbrev pub asked_form : List Name → Asked → Form
@@ -198,7 +201,10 @@ has_shape nothing_form d = is_some (as_null d)
 has_shape flag_form d = is_some (as_bool d)
 has_shape an_index d = is_some (index_of d)
 has_shape a_natural d = is_some (natural_of d)
+has_shape an_optional_natural d = is_some (optional_natural_of d)
+has_shape an_optional_text d = is_some (optional_text_of d)
 has_shape a_keep d = is_some (keep_of d)
+has_shape a_statistic d = is_some (statistic_of d)
 has_shape an_excluded d = is_some (keyed_part excluded_key_form d)
 has_shape (keyed_form names kind) d = is_some (keyed_part (key_form names kind) d)
 has_shape (list_of names a) d = is_list (λ items. true) d

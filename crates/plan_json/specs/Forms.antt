@@ -5,8 +5,10 @@ use Rattle.plan_types.specs.Schemas.{Name, Columns}
 use Rattle.plan_types.specs.Types.{Ty}
 use Rattle.plan_types.specs.declared.dtype.CastOptions.{CastOptions}
 use Rattle.plan_dsl.specs.Ops.{Op, ColumnOp, BinaryOp, CastOp, LenOp, SliceOp, ExplodeOp, GatherOp, FilterOp, SortOp, SortByOp, AliasOp, WindowOp, TernaryOp, FunctionOp}
-use Rattle.plan_dsl.specs.Plans.{RechunkPass, SortWork, SourcePlan, all_known_values, nulls_filled, scan_op, source_cache, source_distinct, source_drop, source_filter, source_group_by, source_hstack, source_over, source_pass, source_select, source_sink, source_slice}
+use Rattle.plan_dsl.specs.Plans.{CallWork, FunctionWork, RechunkPass, SortWork, SourcePlan, all_known_values, nulls_filled, scan_op, source_cache, source_distinct, source_drop, source_filter, source_group_by, source_hstack, source_over, source_pass, source_select, source_sink, source_slice}
+use Rattle.plan_dsl.specs.TableFunctions.{ExplodeCall, RenameCall, RowIndexFunction, StatsCall, UnnestCall, UnpivotCall}
 use Rattle.plan_dsl.specs.declared.distinct_options.UniqueKeepStrategy.{UniqueKeepStrategy}
+use Rattle.plan_dsl.specs.declared.function.StatsFunction.{StatsFunction}
 use Rattle.plan_dsl.specs.Sources.{Excluded, Source, Plain, WildcardOp, ColumnsOp, DtypeColumnOp, IndexColumnOp, NthOp, ExcludeOp, SelectorOp, RootOp, RenameOp, KeepRoot, AddPrefix, AddSuffix, SetName, FieldAtOp, SetRule, Add, Sub, Intersect, ExclusiveOr, SourceOp, of_two}
 use Rattle.plan_dsl.specs.Trees.{node, no_more, more, children_from}
 use Rattle.plan_dsl.specs.declared.aggregate.GroupByMethod.{GroupByMethod}
@@ -184,7 +186,13 @@ plan_rows =
     (codes "rechunk", by.Rechunk) ∷
     (codes "drop", by.Drop) ∷
     (codes "drop_nulls", by.DropNulls) ∷
-    (codes "fill_null", by.FillNull) ∷ []
+    (codes "fill_null", by.FillNull) ∷
+    (codes "row_index", by.RowIndex) ∷
+    (codes "explode", by.Explode) ∷
+    (codes "unpivot", by.Unpivot) ∷
+    (codes "rename", by.Rename) ∷
+    (codes "unnest", by.Unnest) ∷
+    (codes "stats", by.Stats) ∷ []
 
 -- what each asks of its value
 abbrev pub plan_asks : PlanKey → Places
@@ -203,6 +211,12 @@ plan_asks by.Rechunk = single plan
 plan_asks by.Drop = listed (plan ∷ many selector ∷ leaf (leaves.Small smalls.Flag) ∷ [])
 plan_asks by.DropNulls = listed (plan ∷ optional expression ∷ [])
 plan_asks by.FillNull = listed (plan ∷ expression ∷ [])
+plan_asks by.RowIndex = listed (plan ∷ leaf leaves.Name ∷ leaf (leaves.Small smalls.OptionalNatural) ∷ [])
+plan_asks by.Explode = listed (plan ∷ many selector ∷ leaf (leaves.Small smalls.Flag) ∷ [])
+plan_asks by.Unpivot = listed (plan ∷ many selector ∷ many selector ∷ leaf leaves.OptionalName ∷ leaf leaves.OptionalName ∷ [])
+plan_asks by.Rename = listed (plan ∷ many (leaf leaves.Name) ∷ many (leaf leaves.Name) ∷ leaf (leaves.Small smalls.Flag) ∷ [])
+plan_asks by.Unnest = listed (plan ∷ many selector ∷ [])
+plan_asks by.Stats = listed (plan ∷ leaf (leaves.Small smalls.Statistic) ∷ [])
 
 -- ---- types
 
@@ -244,7 +258,10 @@ mutual
     flag_read : Bool → Read
     index_read : ℤ → Read
     natural_read : ℕ → Read
+    optional_name_read : Option Name → Read
+    optional_natural_read : Option ℕ → Read
     keep_read : UniqueKeepStrategy → Read
+    statistic_read : StatsFunction → Read
     excluded_read : Excluded → Read
     -- how rows are put in order, if they are, and by which expressions
     order_read : Option SortOptions → List Source → Read
@@ -421,6 +438,16 @@ plan_says by.DropNulls (plan_read input ∷ nothing_read ∷ []) = Some (source_
 plan_says by.DropNulls (plan_read input ∷ many_read subset ∷ []) =
     Some (source_filter (all_known_values (Some (expressions_in subset))) input)
 plan_says by.FillNull (plan_read input ∷ expression_read value ∷ []) = Some (source_select (nulls_filled value ∷ []) input)
+plan_says by.RowIndex (plan_read input ∷ name_read name ∷ optional_natural_read offset ∷ []) =
+    Some (source_over (FunctionWork (RowIndexFunction name offset)) [] input)
+plan_says by.Explode (plan_read input ∷ chosen_read columns ∷ flag_read allow_empty ∷ []) =
+    Some (source_over (CallWork (ExplodeCall allow_empty)) (selectors_in columns ∷ []) input)
+plan_says by.Unpivot (plan_read input ∷ chosen_read on ∷ chosen_read index ∷ optional_name_read variable ∷ optional_name_read value ∷ []) =
+    Some (source_over (CallWork (UnpivotCall variable value)) (selectors_in on ∷ selectors_in index ∷ []) input)
+plan_says by.Rename (plan_read input ∷ leaves_read _ existing ∷ leaves_read _ new ∷ flag_read strict ∷ []) =
+    Some (source_over (CallWork (RenameCall (names_in existing) (names_in new) strict)) [] input)
+plan_says by.Unnest (plan_read input ∷ chosen_read columns ∷ []) = Some (source_over (CallWork UnnestCall) (selectors_in columns ∷ []) input)
+plan_says by.Stats (plan_read input ∷ statistic_read statistic ∷ []) = Some (source_over (CallWork (StatsCall statistic)) [] input)
 plan_says _ _ = None
 
 -- ---- keys of any kind
@@ -472,7 +499,10 @@ abbrev mutual
   fits (leaf (leaves.Small smalls.Flag)) (flag_read flag) = true
   fits (leaf (leaves.Small smalls.Index)) (index_read index) = true
   fits (leaf (leaves.Small smalls.Natural)) (natural_read natural) = true
+  fits (leaf leaves.OptionalName) (optional_name_read name) = true
+  fits (leaf (leaves.Small smalls.OptionalNatural)) (optional_natural_read natural) = true
   fits (leaf (leaves.Small smalls.Keep)) (keep_read keep) = true
+  fits (leaf (leaves.Small smalls.Statistic)) (statistic_read statistic) = true
   fits (leaf leaves.Excluded) (excluded_read excluded) = true
   fits (leaf leaves.Function) (function_read function) = true
   fits order (order_read way by) = true

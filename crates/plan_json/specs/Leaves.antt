@@ -21,6 +21,8 @@ use Rattle.plan_dsl.specs.declared.aggregate.GroupByMethod.{GroupByMethod}
 use Rattle.plan_dsl.specs.declared.aggregate.GroupByMethod.TheVariants.{Min, Max, NUnique, First, Last, Implode, Sum, Count, Groups}
 use Rattle.plan_dsl.specs.declared.distinct_options.UniqueKeepStrategy.{UniqueKeepStrategy}
 use Rattle.plan_dsl.specs.declared.distinct_options.UniqueKeepStrategy.TheVariants as keeps
+use Rattle.plan_dsl.specs.declared.function.StatsFunction.{StatsFunction}
+use Rattle.plan_dsl.specs.declared.function.StatsFunction.TheVariants as statistics
 use Rattle.plan_dsl.specs.declared.function_expr.FunctionExpr.{FunctionExpr}
 use Rattle.plan_dsl.specs.declared.function_expr.FunctionExpr.TheVariants.{AllHorizontal, AnyHorizontal, IsNull, IsNotNull, FillNull, IsIn, ShiftAndFill, ListGet}
 use Rattle.plan_dsl.specs.declared.operator.Operator.{Operator}
@@ -35,11 +37,20 @@ use Rattle.plan_json.specs.declared.forms.TypeKey.TheVariants as types
 use Rattle.plan_json.specs.declared.forms.ExcludedKey.{ExcludedKey}
 use Rattle.plan_json.specs.declared.forms.ExcludedKey.TheVariants as excludes
 
+-- null, which says nothing, or what is read of it
+abbrev pub or_null : {A : Type 0} → (Data → Option A) → Data → Option (Option A)
+or_null read null = Some None
+or_null read d = option_map (λ x. Some x) (read d)
+
 -- ---- names and types
 
 -- the characters of a text
 abbrev pub text_of : Data → Option Name
 text_of d = option_map chars (as_str d)
+
+-- null or a text
+abbrev pub optional_text_of : Data → Option (Option Name)
+optional_text_of d = or_null text_of d
 
 abbrev pub integer_named : List ℕ → Option Ty
 integer_named name =
@@ -201,6 +212,16 @@ keep_named name =
 abbrev pub keep_of : Data → Option UniqueKeepStrategy
 keep_of d = option_and_then keep_named (as_str d)
 
+-- what is taken of each column
+abbrev pub statistic_named : List ℕ → Option StatsFunction
+statistic_named name =
+    if bytes_eq name (codes "Sum") then Some statistics.Sum else (
+    if bytes_eq name (codes "Min") then Some statistics.Min else (
+    if bytes_eq name (codes "Max") then Some statistics.Max else None))
+
+abbrev pub statistic_of : Data → Option StatsFunction
+statistic_of d = option_and_then statistic_named (as_str d)
+
 -- ---- places of columns, other numbers, and what an exclude leaves out
 
 -- a whole number of 64 bits with a sign
@@ -214,6 +235,10 @@ short number = if nat_lt number (2 ^ 32) then Some number else None
 -- a whole number of 32 bits without a sign
 abbrev pub natural_of : Data → Option ℕ
 natural_of d = option_and_then short (option_and_then as_u64 (as_number d))
+
+-- null or such a number
+abbrev pub optional_natural_of : Data → Option (Option ℕ)
+optional_natural_of d = or_null natural_of d
 
 -- what its key says of its value
 abbrev pub keyed_excluded : ExcludedKey → Data → Option Excluded

@@ -5,8 +5,8 @@ use Rattle.serde_json.specs.Data.{Data, array, object, Items, no_items, item, no
 use Rattle.plan_dsl.specs.Plans.{SourcePlan, plan_tree}
 use Rattle.plan_dsl.specs.declared.plan.DslPlan.{DslPlan}
 use Rattle.plan_dsl.specs.declared.plan.DslPlan.TheVariants.{Cache', DataFrameScan, Distinct', Filter', GroupBy', HStack', MapFunction', Select', Sink', Slice', Sort'}
-use Rattle.plan_json.specs.Forms.{Asked, a_form, leaf, many, order, optional, order_items, order_says, no_order, Places, single, listed, plan, Read, name_read, literal_read, operator_read, method_read, function_read, type_read, mode_read, table_read, columns_read, plan_read, list_read, reads_of, key_named, asks, says, nothing_read, flag_read, index_read, natural_read, keep_read, excluded_read}
-use Rattle.plan_json.specs.Leaves.{excluded_item, index_of, keep_of, natural_of, text_of, literal_written, operator_of, method_of, function_of, type_of, mode_of, table_at, columns_of, tables_of}
+use Rattle.plan_json.specs.Forms.{Asked, a_form, leaf, many, order, optional, order_items, order_says, no_order, Places, single, listed, plan, Read, name_read, literal_read, operator_read, method_read, function_read, type_read, mode_read, table_read, columns_read, plan_read, list_read, reads_of, key_named, asks, says, nothing_read, flag_read, index_read, natural_read, keep_read, optional_name_read, optional_natural_read, statistic_read, excluded_read}
+use Rattle.plan_json.specs.Leaves.{excluded_item, index_of, keep_of, natural_of, optional_natural_of, optional_text_of, statistic_of, text_of, literal_written, operator_of, method_of, function_of, type_of, mode_of, table_at, columns_of, tables_of}
 use Rattle.plan_json.specs.Looking.{both, two_members}
 use Rattle.plan_json.specs.Tables.{Declared, declared}
 use Rattle.plan_json.specs.declared.forms.Leaf.{Leaf}
@@ -41,7 +41,9 @@ small_of smalls.Nothing d = nothing_of d
 small_of smalls.Flag d = option_map flag_read (as_bool d)
 small_of smalls.Index d = option_map index_read (index_of d)
 small_of smalls.Natural d = option_map natural_read (natural_of d)
+small_of smalls.OptionalNatural d = option_map optional_natural_read (optional_natural_of d)
 small_of smalls.Keep d = option_map keep_read (keep_of d)
+small_of smalls.Statistic d = option_map statistic_read (statistic_of d)
 
 abbrev pub leaf_of : Declared → Leaf → Data → Option Read
 leaf_of tables leaves.Name d = option_map name_read (text_of d)
@@ -51,6 +53,7 @@ leaf_of tables leaves.Table d = option_map (λ table. table_read table.0 table.1
 leaf_of tables leaves.Columns d = option_map columns_read (columns_of d)
 leaf_of tables leaves.Excluded d = option_map excluded_read (excluded_item d)
 leaf_of tables leaves.Function d = option_map function_read (function_of d)
+leaf_of tables leaves.OptionalName d = option_map optional_name_read (optional_text_of d)
 leaf_of tables (leaves.Small which) d = small_of which d
 
 -- the first of these, and the others

@@ -7,7 +7,7 @@ ghost use Rattle.plan_dsl.specs.Plans.{plan_tree};
 ghost use Rattle.plan_types.specs.Schemas.{columns};
 ghost use Rattle.plan_types.specs.Types.{ty};
 ghost use Rattle.plan_json.specs.Arguments.{arg_view, args_view, items_seen};
-ghost use Rattle.plan_json.specs.Forms.{AllFit, Asked, Fits, optional, optional_read, chosen_read, columns_read, expression, expression_read, leaf, leaves_read, literal_read, many, many_read, method_read, function_read, mode_read, name_read, operator_read, order, order_items, order_read, order_says, plan, plan_read, reads_of, selector, selector_read, table_read, type_read, nothing_read, flag_read, index_read, natural_read, keep_read, subset_read, excluded_read, is_literal};
+ghost use Rattle.plan_json.specs.Forms.{AllFit, Asked, Fits, optional, optional_read, chosen_read, columns_read, expression, expression_read, leaf, leaves_read, literal_read, many, many_read, method_read, function_read, mode_read, name_read, operator_read, order, order_items, order_read, order_says, plan, plan_read, reads_of, selector, selector_read, table_read, type_read, nothing_read, flag_read, index_read, natural_read, keep_read, optional_name_read, optional_natural_read, statistic_read, subset_read, excluded_read, is_literal};
 ghost use Rattle.plan_json.specs.Queries.{has_flags};
 ghost use Rattle.plan_json.specs.declared.forms.Leaf.TheVariants as leaves;
 ghost use Rattle.plan_json.specs.declared.forms.SmallLeaf.TheVariants as smalls;
@@ -15,6 +15,7 @@ ghost use Rattle.plan_json.specs.declared.forms.SmallLeaf.TheVariants as smalls;
 use plan_dsl::aggregate::GroupByMethod;
 use plan_dsl::distinct_options::UniqueKeepStrategy;
 use plan_dsl::expr::{Expr, Exprs};
+use plan_dsl::function::StatsFunction;
 use plan_dsl::function_expr::FunctionExpr;
 use plan_dsl::literal::LiteralValue;
 use plan_dsl::marker::Excluded;
@@ -30,6 +31,7 @@ use plan_types::text::PlSmallStr;
 #[derive(Drop)]
 pub(crate) enum Arg {
     Name(Box<PlSmallStr>),
+    OptionalName(Box<Option<PlSmallStr>>),
     Literal(Box<LiteralValue>),
     Operator(Operator),
     Method(GroupByMethod),
@@ -42,7 +44,9 @@ pub(crate) enum Arg {
     Flag(bool),
     Index(i64),
     Natural(u32),
+    OptionalNatural(Option<u32>),
     Keep(UniqueKeepStrategy),
+    Statistic(StatsFunction),
     Excluded(Box<Excluded>),
     Order(Option<(Box<Expr>, SortOptions)>),
     Expression(Box<Expr>),
@@ -65,6 +69,7 @@ pub(crate) struct Items {
     pub(crate) second: Arg,
     pub(crate) third: Arg,
     pub(crate) fourth: Arg,
+    pub(crate) fifth: Arg,
 }
 
 // What is read of a key's value.
@@ -86,23 +91,30 @@ fn spare(arg: Arg) {
     }
 }
 
-// What stands in the four places.
+// What stands in the five places.
 #[inline(always)]
-fn parts(args: Args) -> (Arg, Arg, Arg, Arg)
+fn parts(args: Args) -> (Arg, Arg, Arg, Arg, Arg)
     ensures { (count : ℕ) → length (args_view args) ≡ count
-        → args_view args ≡ take count (arg_view result.0 ∷ arg_view result.1 ∷ arg_view result.2 ∷ arg_view result.3 ∷ []) }
+        → args_view args ≡ take count (arg_view result.0 ∷ arg_view result.1 ∷ arg_view result.2 ∷ arg_view result.3 ∷ arg_view result.4 ∷ []) }
 {
     match args {
-        Args::One(first) => (first, Arg::Nothing, Arg::Nothing, Arg::Nothing),
+        Args::One(first) => (
+            first,
+            Arg::Nothing,
+            Arg::Nothing,
+            Arg::Nothing,
+            Arg::Nothing,
+        ),
         Args::Listed(
             Items {
                 first,
                 second,
                 third,
                 fourth,
+                fifth,
                 ..
             },
-        ) => (first, second, third, fourth),
+        ) => (first, second, third, fourth, fifth),
     }
 }
 
@@ -112,10 +124,11 @@ pub(crate) fn one(args: Args) -> Arg
     ensures all { args_view args ≡ arg_view result ∷ [] }
     ensures first { (p : Asked) → AllFit (p ∷ []) (args_view args) → Fits p (arg_view result) }
 {
-    let (first, second, third, fourth) = parts(args);
+    let (first, second, third, fourth, fifth) = parts(args);
     spare(second);
     spare(third);
     spare(fourth);
+    spare(fifth);
     first
 }
 
@@ -126,9 +139,10 @@ pub(crate) fn two(args: Args) -> (Arg, Arg)
     ensures first { (p q : Asked) → AllFit (p ∷ q ∷ []) (args_view args) → Fits p (arg_view result.0) }
     ensures second { (p q : Asked) → AllFit (p ∷ q ∷ []) (args_view args) → Fits q (arg_view result.1) }
 {
-    let (first, second, third, fourth) = parts(args);
+    let (first, second, third, fourth, fifth) = parts(args);
     spare(third);
     spare(fourth);
+    spare(fifth);
     (first, second)
 }
 
@@ -140,8 +154,9 @@ pub(crate) fn three(args: Args) -> (Arg, Arg, Arg)
     ensures second { (p q r : Asked) → AllFit (p ∷ q ∷ r ∷ []) (args_view args) → Fits q (arg_view result.1) }
     ensures third { (p q r : Asked) → AllFit (p ∷ q ∷ r ∷ []) (args_view args) → Fits r (arg_view result.2) }
 {
-    let (first, second, third, fourth) = parts(args);
+    let (first, second, third, fourth, fifth) = parts(args);
     spare(fourth);
+    spare(fifth);
     (first, second, third)
 }
 
@@ -153,6 +168,21 @@ pub(crate) fn four(args: Args) -> (Arg, Arg, Arg, Arg)
     ensures second { (p q r s : Asked) → AllFit (p ∷ q ∷ r ∷ s ∷ []) (args_view args) → Fits q (arg_view result.1) }
     ensures third { (p q r s : Asked) → AllFit (p ∷ q ∷ r ∷ s ∷ []) (args_view args) → Fits r (arg_view result.2) }
     ensures fourth { (p q r s : Asked) → AllFit (p ∷ q ∷ r ∷ s ∷ []) (args_view args) → Fits s (arg_view result.3) }
+{
+    let (first, second, third, fourth, fifth) = parts(args);
+    spare(fifth);
+    (first, second, third, fourth)
+}
+
+#[inline(always)]
+pub(crate) fn five(args: Args) -> (Arg, Arg, Arg, Arg, Arg)
+    requires { length (args_view args) ≡ 5 }
+    ensures all { args_view args ≡ arg_view result.0 ∷ arg_view result.1 ∷ arg_view result.2 ∷ arg_view result.3 ∷ arg_view result.4 ∷ [] }
+    ensures first { (p q r s t : Asked) → AllFit (p ∷ q ∷ r ∷ s ∷ t ∷ []) (args_view args) → Fits p (arg_view result.0) }
+    ensures second { (p q r s t : Asked) → AllFit (p ∷ q ∷ r ∷ s ∷ t ∷ []) (args_view args) → Fits q (arg_view result.1) }
+    ensures third { (p q r s t : Asked) → AllFit (p ∷ q ∷ r ∷ s ∷ t ∷ []) (args_view args) → Fits r (arg_view result.2) }
+    ensures fourth { (p q r s t : Asked) → AllFit (p ∷ q ∷ r ∷ s ∷ t ∷ []) (args_view args) → Fits s (arg_view result.3) }
+    ensures fifth { (p q r s t : Asked) → AllFit (p ∷ q ∷ r ∷ s ∷ t ∷ []) (args_view args) → Fits t (arg_view result.4) }
 {
     parts(args)
 }
@@ -172,6 +202,14 @@ pub(crate) fn name(arg: Arg) -> PlSmallStr
     ensures { arg_view arg ≡ name_read result }
 {
     taken!(arg, Arg::Name(name) => Box::into_inner(name))
+}
+
+// A text, if there is one.
+pub(crate) fn optional_name(arg: Arg) -> Option<PlSmallStr>
+    requires { Fits (leaf leaves.OptionalName) (arg_view arg) }
+    ensures { arg_view arg ≡ optional_name_read result }
+{
+    taken!(arg, Arg::OptionalName(name) => Box::into_inner(name))
 }
 
 // A literal, however it was written.
@@ -260,11 +298,25 @@ pub(crate) fn natural(arg: Arg) -> u32
     taken!(arg, Arg::Natural(natural) => natural)
 }
 
+pub(crate) fn optional_natural(arg: Arg) -> Option<u32>
+    requires { Fits (leaf (leaves.Small smalls.OptionalNatural)) (arg_view arg) }
+    ensures { arg_view arg ≡ optional_natural_read result }
+{
+    taken!(arg, Arg::OptionalNatural(natural) => natural)
+}
+
 pub(crate) fn keep(arg: Arg) -> UniqueKeepStrategy
     requires { Fits (leaf (leaves.Small smalls.Keep)) (arg_view arg) }
     ensures { arg_view arg ≡ keep_read result }
 {
     taken!(arg, Arg::Keep(keep) => keep)
+}
+
+pub(crate) fn statistic(arg: Arg) -> StatsFunction
+    requires { Fits (leaf (leaves.Small smalls.Statistic)) (arg_view arg) }
+    ensures { arg_view arg ≡ statistic_read result }
+{
+    taken!(arg, Arg::Statistic(statistic) => statistic)
 }
 
 // How rows are put in order, and by which expression, if they are.
@@ -349,6 +401,14 @@ pub(crate) fn some_selectors(arg: Arg) -> Option<Selectors>
         Arg::Selectors(selectors) => Some(Box::into_inner(selectors)),
         _ => unreachable!(),
     }
+}
+
+// A list of texts.
+pub(crate) fn names(arg: Arg) -> Vec<PlSmallStr>
+    requires { Fits (many (leaf leaves.Name)) (arg_view arg) }
+    ensures { arg_view arg ≡ leaves_read leaves.Name (reads_of (map name_read result.items)) }
+{
+    taken!(arg, Arg::Names(names) => Box::into_inner(names))
 }
 
 // A list of truth values, in the box in which it was read.

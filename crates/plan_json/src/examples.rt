@@ -7,6 +7,7 @@ pub mod faults;
 pub mod functions;
 pub mod markers;
 pub mod nulls;
+pub mod table_functions;
 pub mod windows;
 pub mod works;
 

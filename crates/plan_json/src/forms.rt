@@ -30,6 +30,8 @@ pub(crate) enum Leaf {
     Excluded,
     // The name of a function.
     Function,
+    // Null, or a text.
+    OptionalName,
     Small(SmallLeaf),
 }
 
@@ -60,8 +62,12 @@ pub(crate) enum SmallLeaf {
     Index,
     // A whole number of 32 bits without a sign.
     Natural,
+    // Null, or a whole number of 32 bits without a sign.
+    OptionalNatural,
     // Which row is kept of equal ones.
     Keep,
+    // What is taken of each column.
+    Statistic,
 }
 
 // What has no forms and stands in lists.
@@ -93,7 +99,7 @@ pub(crate) enum Place {
     Leaves(ListLeaf),
 }
 
-// What a key asks of its value: one thing, or a list of exactly these, of which there are four at most.
+// What a key asks of its value: one thing, or a list of exactly these, of which there are five at most.
 #[derive(Clone, Copy)]
 pub(crate) enum Places {
     One(Place),
@@ -176,6 +182,12 @@ pub(crate) enum PlanKey {
     Drop,
     DropNulls,
     FillNull,
+    RowIndex,
+    Explode,
+    Unpivot,
+    Rename,
+    Unnest,
+    Stats,
 }
 
 // The keys of types that have parts.
@@ -229,6 +241,8 @@ const PLAN: Place = Place::Form(Kind::Plan);
 
 const NAME: Place = Place::Leaf(Leaf::Name);
 
+const OPTIONAL_NAME: Place = Place::Leaf(Leaf::OptionalName);
+
 const OPERATOR: Place = Place::Leaf(Leaf::Small(SmallLeaf::Operator));
 
 const METHOD: Place = Place::Leaf(Leaf::Small(SmallLeaf::Method));
@@ -251,7 +265,11 @@ const INDEX: Place = Place::Leaf(Leaf::Small(SmallLeaf::Index));
 
 const NATURAL: Place = Place::Leaf(Leaf::Small(SmallLeaf::Natural));
 
+const OPTIONAL_NATURAL: Place = Place::Leaf(Leaf::Small(SmallLeaf::OptionalNatural));
+
 const KEEP: Place = Place::Leaf(Leaf::Small(SmallLeaf::Keep));
+
+const STATISTIC: Place = Place::Leaf(Leaf::Small(SmallLeaf::Statistic));
 
 // A word is looked for from the first row on, so common ones stand in front.
 const EXPRESSION_ROWS: [(&'static str, ExpressionKey); 31] = [
@@ -296,7 +314,7 @@ const SELECTOR_ROWS: [(&'static str, SelectorKey); 5] = [
     ("xor", SelectorKey::Joined(Joining::Xor)),
 ];
 
-const PLAN_ROWS: [(&'static str, PlanKey); 15] = [
+const PLAN_ROWS: [(&'static str, PlanKey); 21] = [
     ("scan", PlanKey::Scan),
     ("empty", PlanKey::Empty),
     ("filter", PlanKey::Filter),
@@ -312,6 +330,12 @@ const PLAN_ROWS: [(&'static str, PlanKey); 15] = [
     ("drop", PlanKey::Drop),
     ("drop_nulls", PlanKey::DropNulls),
     ("fill_null", PlanKey::FillNull),
+    ("row_index", PlanKey::RowIndex),
+    ("explode", PlanKey::Explode),
+    ("unpivot", PlanKey::Unpivot),
+    ("rename", PlanKey::Rename),
+    ("unnest", PlanKey::Unnest),
+    ("stats", PlanKey::Stats),
 ];
 
 const TYPE_ROWS: [(&'static str, TypeKey); 4] = [
@@ -406,7 +430,7 @@ pub(crate) fn find_excluded(word: &str) -> Option<(&'static str, ExcludedKey)>
 // What an order asks for where it is no null.
 pub(crate) fn order_places() -> &'static [Place]
     ensures asks { map place_view result.now ≡ order_items }
-    ensures short { length result.now ≤ 4 }
+    ensures short { length result.now ≤ 5 }
 {
     &[EXPRESSION, FLAG, FLAG]
 }
@@ -414,7 +438,7 @@ pub(crate) fn order_places() -> &'static [Place]
 // What the key asks of its value.
 pub(crate) fn places_of(key: Key) -> Places
     ensures asks { places_view result ≡ asks key }
-    ensures short { length (asked_in (places_view result)) ≤ 4 }
+    ensures short { length (asked_in (places_view result)) ≤ 5 }
 {
     match key {
         Key::Expression(key) => expression_places(key),
@@ -425,7 +449,7 @@ pub(crate) fn places_of(key: Key) -> Places
 
 pub(crate) fn expression_places(key: ExpressionKey) -> Places
     ensures asks { places_view result ≡ expression_asks key }
-    ensures short { length (asked_in (places_view result)) ≤ 4 }
+    ensures short { length (asked_in (places_view result)) ≤ 5 }
 {
     match key {
         ExpressionKey::Col => Places::One(NAME),
@@ -453,7 +477,7 @@ pub(crate) fn expression_places(key: ExpressionKey) -> Places
 
 fn marker_places(key: MarkerKey) -> Places
     ensures asks { places_view result ≡ marker_asks key }
-    ensures short { length (asked_in (places_view result)) ≤ 4 }
+    ensures short { length (asked_in (places_view result)) ≤ 5 }
 {
     match key {
         MarkerKey::Cols => Places::One(NAMES),
@@ -468,7 +492,7 @@ fn marker_places(key: MarkerKey) -> Places
 
 fn plan_places(key: PlanKey) -> Places
     ensures asks { places_view result ≡ plan_asks key }
-    ensures short { length (asked_in (places_view result)) ≤ 4 }
+    ensures short { length (asked_in (places_view result)) ≤ 5 }
 {
     match key {
         PlanKey::Scan => Places::One(TABLE),
@@ -486,12 +510,20 @@ fn plan_places(key: PlanKey) -> Places
         PlanKey::Drop => Places::Listed(&[PLAN, SELECTORS, FLAG]),
         PlanKey::DropNulls => Places::Listed(&[PLAN, OPTIONAL_EXPRESSIONS]),
         PlanKey::FillNull => Places::Listed(&[PLAN, EXPRESSION]),
+        PlanKey::RowIndex => Places::Listed(&[PLAN, NAME, OPTIONAL_NATURAL]),
+        PlanKey::Explode => Places::Listed(&[PLAN, SELECTORS, FLAG]),
+        PlanKey::Unpivot => {
+            Places::Listed(&[PLAN, SELECTORS, SELECTORS, OPTIONAL_NAME, OPTIONAL_NAME])
+        }
+        PlanKey::Rename => Places::Listed(&[PLAN, NAMES, NAMES, FLAG]),
+        PlanKey::Unnest => Places::Listed(&[PLAN, SELECTORS]),
+        PlanKey::Stats => Places::Listed(&[PLAN, STATISTIC]),
     }
 }
 
 fn selector_places(key: SelectorKey) -> Places
     ensures asks { places_view result ≡ selector_asks key }
-    ensures short { length (asked_in (places_view result)) ≤ 4 }
+    ensures short { length (asked_in (places_view result)) ≤ 5 }
 {
     match key {
         SelectorKey::Root => Places::One(EXPRESSION),

@@ -1,5 +1,5 @@
 //! Reading what a place asks for, by the table of forms.
-ghost use Rattle.std.specs.Prelude.{◌≡◌, ◌≤◌, Some, length, map, option_and_then, IfOk, IfErr};
+ghost use Rattle.std.specs.Prelude.{◌+◌, ◌≡◌, ◌≤◌, Some, length, map, option_and_then, IfOk, IfErr};
 ghost use Rattle.serde_json.specs.Data.{array};
 ghost use Rattle.serde_json.specs.View.{view, items_view};
 ghost use Rattle.plan_dsl.specs.Expressions.{selector_trees, tree_of, trees_of};
@@ -30,8 +30,10 @@ use super::lists::{read_flag, read_index, read_list, read_natural};
 use super::literal::read_written;
 use super::method::read_method;
 use super::operator::{read_mode, read_operator};
+use super::optional::{read_optional_natural, read_optional_text};
 use super::plan::assemble_plan;
 use super::selector::assemble_selector;
+use super::statistic::read_statistic;
 use super::tables::Tables;
 use super::value::{items, keyed, only_member, three_items};
 use plan_dsl::expr::{Expr, Exprs};
@@ -204,7 +206,7 @@ fn read_places(
     places: Places,
     value: &Value,
 ) -> Result<Args, JsonError>
-    requires { length (asked_in (places_view places)) ≤ 4 }
+    requires { length (asked_in (places_view places)) ≤ 5 }
     ensures { IsReading (places_as (declared tables.now) (places_view places)) (places_form (names_of (declared tables.now)) (places_view places)) (view value.now) result args_view }
 {
     match places {
@@ -228,7 +230,7 @@ fn read_listed(
     places: &[Place],
     value: &Value,
 ) -> Result<Items, JsonError>
-    requires { length places.now ≤ 4 }
+    requires { length places.now ≤ 5 }
     ensures { IsReading (list_as (declared tables.now) (map place_view places.now)) (items_of (names_of (declared tables.now)) (map place_view places.now)) (view value.now) result items_seen }
 {
     match items(value) {
@@ -247,7 +249,7 @@ fn read_listed(
 
 // Each item by its place.
 #[cycle(forms)]
-#[tactic(auto, using(crate::proofs::FormLemmas::four_read))]
+#[tactic(auto, using(crate::proofs::FormLemmas::five_read))]
 fn read_items(
     alloc: Global,
     tables: &Tables,
@@ -255,45 +257,72 @@ fn read_items(
     values: &[Value],
 ) -> Result<Items, JsonError>
     requires count { length values.now ≡ length places.now }
-    requires short { length places.now ≤ 4 }
+    requires short { length places.now ≤ 5 }
     ensures ok { IfOk result (λ items. these_as (declared tables.now) (map place_view places.now) (items_view values.now)
         ≡ Some (items_seen items)) }
     ensures err { IfErr result (IsErrorOf (items_of (names_of (declared tables.now)) (map place_view places.now))
         (array (items_view values.now))) }
 {
-    let first = match read_item(alloc, tables, places, values, 0) {
-        Ok(first) => first,
+    let (first, second) = match read_two(alloc, tables, places, values, 0) {
+        Ok(two) => two,
         Err(error) => return Err(error),
     };
-    let second = match read_item(alloc, tables, places, values, 1) {
-        Ok(second) => second,
-        Err(error) => {
-            discard(first);
-            return Err(error);
-        }
-    };
-    let third = match read_item(alloc, tables, places, values, 2) {
-        Ok(third) => third,
+    let (third, fourth) = match read_two(alloc, tables, places, values, 2) {
+        Ok(two) => two,
         Err(error) => {
             discard(first);
             discard(second);
             return Err(error);
         }
     };
-    match read_item(alloc, tables, places, values, 3) {
+    match read_item(alloc, tables, places, values, 4) {
         Err(error) => {
             discard(first);
             discard(second);
             discard(third);
+            discard(fourth);
             Err(error)
         }
-        Ok(fourth) => Ok(Items {
+        Ok(fifth) => Ok(Items {
             count: places.len(),
             first,
             second,
             third,
             fourth,
+            fifth,
         }),
+    }
+}
+
+// The items of that number and the next.
+#[cycle(forms)]
+#[inline(always)]
+fn read_two(
+    alloc: Global,
+    tables: &Tables,
+    places: &[Place],
+    values: &[Value],
+    number: usize,
+) -> Result<(Arg, Arg), JsonError>
+    requires count { length values.now ≡ length places.now }
+    requires small { number ≤ 2 }
+    ensures first { IfOk result (λ two. IsItem (declared tables.now) (map place_view places.now) (items_view values.now) number
+        (arg_view two.0)) }
+    ensures second { IfOk result (λ two. IsItem (declared tables.now) (map place_view places.now) (items_view values.now) (number + 1)
+        (arg_view two.1)) }
+    ensures err { IfErr result (IsErrorOf (items_of (names_of (declared tables.now)) (map place_view places.now))
+        (array (items_view values.now))) }
+{
+    let first = match read_item(alloc, tables, places, values, number) {
+        Ok(first) => first,
+        Err(error) => return Err(error),
+    };
+    match read_item(alloc, tables, places, values, number + 1) {
+        Ok(second) => Ok((first, second)),
+        Err(error) => {
+            discard(first);
+            Err(error)
+        }
     }
 }
 
@@ -486,6 +515,7 @@ fn read_leaf(alloc: Global, tables: &Tables, which: Leaf, value: &Value) -> Resu
         Leaf::Columns => boxed!(alloc, read_columns(alloc, value), Arg::Columns),
         Leaf::Excluded => boxed!(alloc, read_excluded(alloc, value), Arg::Excluded),
         Leaf::Function => boxed!(alloc, read_function(alloc, value), Arg::Function),
+        Leaf::OptionalName => boxed!(alloc, read_optional_text(alloc, value), Arg::OptionalName),
         Leaf::Small(which) => match read_small(alloc, which, value) {
             Ok(arg) => Ok(arg),
             Err(error) => Err(error),
@@ -508,7 +538,11 @@ fn read_small(alloc: Global, which: SmallLeaf, value: &Value) -> Result<Arg, Jso
         SmallLeaf::Flag => plain!(read_flag(alloc, value), Arg::Flag),
         SmallLeaf::Index => plain!(read_index(alloc, value), Arg::Index),
         SmallLeaf::Natural => plain!(read_natural(alloc, value), Arg::Natural),
+        SmallLeaf::OptionalNatural => {
+            plain!(read_optional_natural(alloc, value), Arg::OptionalNatural)
+        }
         SmallLeaf::Keep => plain!(read_keep(alloc, value), Arg::Keep),
+        SmallLeaf::Statistic => plain!(read_statistic(alloc, value), Arg::Statistic),
     }
 }
 

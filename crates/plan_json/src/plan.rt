@@ -8,16 +8,18 @@ ghost use Rattle.plan_json.specs.Readers.{IsPlanOf};
 ghost use Rattle.plan_json.specs.declared.forms.PlanKey.TheVariants as by;
 
 use super::arguments::{
-    Args, columns, expression, expressions, flag, flags, four, index, keep, natural, one, plan,
-    selectors, some_expressions, some_selectors, table, three, two,
+    Args, columns, expression, expressions, five, flag, flags, four, index, keep, name, names,
+    natural, one, optional_name, optional_natural, plan, selectors, some_expressions,
+    some_selectors, statistic, table, three, two,
 };
 use super::error::JsonError;
 use super::forms::PlanKey;
 use plan_dsl::builder::DslBuilder;
-use plan_dsl::distinct_options::DistinctOptionsDSL;
+use plan_dsl::distinct_options::{ColumnNames, DistinctOptionsDSL};
 use plan_dsl::function::{DropFunction, DslFunction, FunctionIR};
 use plan_dsl::plan::{DslPlan, ProjectionOptions, SinkType};
 use plan_dsl::sort_options::SortMultipleOptions;
+use plan_dsl::unpivot_args::UnpivotArgsDSL;
 use std::alloc::Global;
 
 // The plan of that key.
@@ -51,6 +53,12 @@ pub(crate) fn assemble_plan(alloc: Global, key: PlanKey, args: Args) -> Result<D
         PlanKey::Drop => Ok(drop_columns(args)),
         PlanKey::DropNulls => drop_nulls(alloc, args),
         PlanKey::FillNull => fill_null(alloc, args),
+        PlanKey::RowIndex => Ok(row_index(args)),
+        PlanKey::Explode => Ok(explode(args)),
+        PlanKey::Unpivot => Ok(unpivot(args)),
+        PlanKey::Rename => Ok(rename(args)),
+        PlanKey::Unnest => Ok(unnest(args)),
+        PlanKey::Stats => Ok(stats(args)),
     }
 }
 
@@ -223,5 +231,94 @@ fn fill_null(alloc: Global, args: Args) -> Result<DslPlan, JsonError>
     match builder.fill_null(alloc, Box::into_inner(expression(value))) {
         Ok(built) => Ok(built.build()),
         Err(error) => Err(JsonError::out_of_memory(error)),
+    }
+}
+
+fn row_index(args: Args) -> DslPlan
+    requires { AllFit (asked_in (plan_asks by.RowIndex)) (args_view args) }
+    ensures { IsPlanOf by.RowIndex (args_view args) result }
+{
+    let (input, index_name, offset) = three(args);
+    DslPlan::MapFunction {
+        input: plan(input),
+        function: DslFunction::RowIndex {
+            name: name(index_name),
+            offset: optional_natural(offset),
+        },
+    }
+}
+
+#[tactic(auto, using(crate::proofs::FormLemmas::selectors_read))]
+fn explode(args: Args) -> DslPlan
+    requires { AllFit (asked_in (plan_asks by.Explode)) (args_view args) }
+    ensures { IsPlanOf by.Explode (args_view args) result }
+{
+    let (input, columns, allow_empty) = three(args);
+    DslPlan::MapFunction {
+        input: plan(input),
+        function: DslFunction::Explode {
+            columns: selectors(columns),
+            allow_empty: flag(allow_empty),
+        },
+    }
+}
+
+#[tactic(auto, using(crate::proofs::FormLemmas::selectors_read))]
+fn unpivot(args: Args) -> DslPlan
+    requires { AllFit (asked_in (plan_asks by.Unpivot)) (args_view args) }
+    ensures { IsPlanOf by.Unpivot (args_view args) result }
+{
+    let (input, on, index, variable_name, value_name) = five(args);
+    DslPlan::MapFunction {
+        input: plan(input),
+        function: DslFunction::Unpivot {
+            args: UnpivotArgsDSL {
+                on: selectors(on),
+                index: selectors(index),
+                variable_name: optional_name(variable_name),
+                value_name: optional_name(value_name),
+            },
+        },
+    }
+}
+
+#[tactic(auto, using(crate::proofs::FormLemmas::names_read))]
+fn rename(args: Args) -> DslPlan
+    requires { AllFit (asked_in (plan_asks by.Rename)) (args_view args) }
+    ensures { IsPlanOf by.Rename (args_view args) result }
+{
+    let (input, existing, new, strict) = four(args);
+    DslPlan::MapFunction {
+        input: plan(input),
+        function: DslFunction::Rename {
+            existing: ColumnNames {
+                items: names(existing),
+            },
+            new: ColumnNames { items: names(new) },
+            strict: flag(strict),
+        },
+    }
+}
+
+#[tactic(auto, using(crate::proofs::FormLemmas::selectors_read))]
+fn unnest(args: Args) -> DslPlan
+    requires { AllFit (asked_in (plan_asks by.Unnest)) (args_view args) }
+    ensures { IsPlanOf by.Unnest (args_view args) result }
+{
+    let (input, columns) = two(args);
+    DslPlan::MapFunction {
+        input: plan(input),
+        function: DslFunction::Unnest(selectors(columns)),
+    }
+}
+
+fn stats(args: Args) -> DslPlan
+    requires { AllFit (asked_in (plan_asks by.Stats)) (args_view args) }
+    ensures { IsPlanOf by.Stats (args_view args) result }
+{
+    let (input, taken) = two(args);
+    DslPlan::MapFunction {
+        input: plan(input),
+        function: DslFunction::Stats(statistic(taken)),
     }
 }

@@ -4,7 +4,9 @@ use Rattle.std.specs.Result.{IsErrAnd}
 use Rattle.std.proofs.lemmas.List.{append-nil}
 use Rattle.plan_types.specs.Schemas.{Columns}
 use Rattle.plan_types.specs.declared.error.PlanError.{PlanError}
-use Rattle.plan_dsl.specs.Plans.{Named, PlanOp, PlanOption, Work, over_op}
+use Rattle.plan_dsl.specs.Plans.{Named, PassWork, PlanOp, PlanOption, SamePass, Work, over_op}
+use Rattle.plan_dsl.specs.PlanRules.{keeps_schema, work_schema}
+use Rattle.plan_dsl.proofs.RuleLemmas.{kept_schemas}
 use Rattle.plan_dsl.specs.Registry.{Registry}
 use Rattle.plan_dsl.specs.Sources.{Source}
 use Rattle.plan_arena.specs.declared.aexpr.AExpr.{AExpr}
@@ -17,12 +19,12 @@ use Rattle.plan_arena.proofs.ItemLemmas.{grows_then, plan_added, plan_stays}
 use Rattle.plan_arena.proofs.OptionLemmas.{options_added}
 use Rattle.plan_lower.specs.declared.conversion.step.LoweredNode.{LoweredNode}
 use Rattle.plan_lower.specs.declared.conversion.step.Plain.{Plain}
-use Rattle.plan_lower.specs.declared.conversion.step.Plain.TheVariants.{Cache, Rechunk, Sink, Slice}
+use Rattle.plan_lower.specs.declared.conversion.step.Plain.TheVariants.{Cache, Sink, Slice}
 use Rattle.plan_lower.specs.declared.conversion.step.Step.{Step}
 use Rattle.plan_lower.specs.Lowering.{IsEmptyTableAt, columns_at}
 use Rattle.plan_lower.specs.Nodes.{KeepsExpressions}
 use Rattle.plan_lower.specs.Steps.{AddsStep, IsStepAt, IsStepRefusal, LowersPlainly, LowersStep, plain_work, step_lists, step_option, step_work}
-use Rattle.plan_lower.specs.Works.{IsPlain, IsPlainRefusal, IsWorkAt}
+use Rattle.plan_lower.specs.Works.{IsItemAt, IsPlain, IsPlainRefusal, IsWorkAt, is_same, recorded_of}
 use Rattle.plan_lower.proofs.RecordedLemmas.{columns_of_recorded, recorded_added}
 
 -- an item that was added stands behind the others, and what stood there stays
@@ -72,15 +74,24 @@ own_adds old mid new item node own grows options added at is = record {
 pub empty_stays : (plans new : List IR) (item : IR) (n : ℕ) → new ≡ plans ++ item ∷ [] → IsEmptyTableAt plans n → IsEmptyTableAt new n
 empty_stays plans new item n grown empty = plan_stays plans new (one_grows plans new item grown) n _ empty
 
--- what a node without expressions does breaks no rule and keeps its input's schema
+-- what a node without expressions does breaks no rule, and keeps its input's schema
+pub plain_keeps : (plain : Plain) → keeps_schema (plain_work plain) ≡ true
+plain_keeps (Slice offset len) = refl
+plain_keeps (Cache id) = refl
+plain_keeps (Sink payload) = refl
+
 pub plain_kept : (schema : Columns) (plain : Plain) → IsPlain schema (plain_work plain) [] (plain_work plain)
-plain_kept schema (Slice offset len) = record { expanded = refl; resolved = refl; unbroken = refl; whole = tt; keeps = refl; columns = refl; something = refl }
-plain_kept schema (Cache id) = record { expanded = refl; resolved = refl; unbroken = refl; whole = tt; keeps = refl; columns = refl; something = refl }
-plain_kept schema (Sink payload) = record { expanded = refl; resolved = refl; unbroken = refl; whole = tt; keeps = refl; columns = refl; something = refl }
-plain_kept schema Rechunk = record { expanded = refl; resolved = refl; unbroken = refl; whole = tt; keeps = refl; columns = refl; something = refl }
+plain_kept schema (Slice offset len) = record { expanded = refl; resolved = refl; unbroken = refl; whole = tt; something = refl; other = refl }
+plain_kept schema (Cache id) = record { expanded = refl; resolved = refl; unbroken = refl; whole = tt; something = refl; other = refl }
+plain_kept schema (Sink payload) = record { expanded = refl; resolved = refl; unbroken = refl; whole = tt; something = refl; other = refl }
+
+-- the node of another work than none is an item
+pub item_at : (own : Work) (plans : List IR) (n input : ℕ) (item : Layer (PlanOp (Named ℕ))) → is_same own ≡ false → slice_get (map plan_layer plans) n ≡ Some item → IsItemAt own plans n input item
+item_at (PassWork SamePass) plans n input item other is = absurd cc
+item_at own plans n input item other is = is
 
 -- its node is the one that a query has
-pub plain_at : (registry : Registry) (schema columns : Columns) (items : List AExpr) (plans : List IR) (n input : ℕ) (work own : Work) (lists : List (List Source)) → IsPlain schema work lists own → columns ≡ schema → slice_get (map plan_layer plans) n ≡ Some (layer (over_op own [] None) (input ∷ [])) → IsWorkAt registry schema items plans n input work lists columns
+pub plain_at : (registry : Registry) (schema columns : Columns) (items : List AExpr) (plans : List IR) (n input : ℕ) (work own : Work) (lists : List (List Source)) → IsPlain schema work lists own → columns ≡ work_schema own schema [] → slice_get (map plan_layer plans) n ≡ Some (layer (over_op own [] (recorded_of own columns)) (input ∷ [])) → IsWorkAt registry schema items plans n input work lists columns
 plain_at registry schema columns items plans n input work own lists is copy item =
     record {
       trees = [];
@@ -91,11 +102,16 @@ plain_at registry schema columns items plans n input work own lists is copy item
       trees_are = refl;
       unbroken = record { each = tt; types = refl; kinds = is.unbroken };
       whole = is.whole;
-      columns_are = copy ∙ sym is.columns;
+      columns_are = copy;
       nodes = [];
       denote = tt;
       below = input;
       nothing = λ e. let never : true ≡ false = sym e ∙ is.something in absurd cc;
       something = λ e. refl;
-      item = item ∙ ap (λ keeps. Some (layer (over_op own [] (cond keeps None (Some columns))) (input ∷ []))) (sym is.keeps);
+      item = item_at own plans n input _ is.other item;
     }
+
+-- one that keeps its input's schema records none
+pub kept_at : (registry : Registry) (schema columns : Columns) (items : List AExpr) (plans : List IR) (n input : ℕ) (work own : Work) (lists : List (List Source)) → IsPlain schema work lists own → keeps_schema own ≡ true → columns ≡ schema → slice_get (map plan_layer plans) n ≡ Some (layer (over_op own [] None) (input ∷ [])) → IsWorkAt registry schema items plans n input work lists columns
+kept_at registry schema columns items plans n input work own lists is keeps copy item =
+    plain_at registry schema columns items plans n input work own lists is (copy ∙ sym (kept_schemas own keeps schema [])) (item ∙ ap (λ kept. Some (layer (over_op own [] (cond kept None (Some columns))) (input ∷ []))) (sym keeps))

@@ -20,13 +20,13 @@ use Rattle.plan_lower.specs.Works.{IsPlain, IsPlainRefusal, against_a_rule, unre
 use Rattle.plan_lower.proofs.BuiltLemmas.{unexpanded_then}
 
 pub by_all : (schema : Columns) (keep : UniqueKeepStrategy) → IsPlain schema (DistinctWork keep None) [] (DistinctWork keep None)
-by_all schema keep = record { expanded = refl; resolved = refl; unbroken = refl; whole = tt; keeps = refl; columns = refl; something = refl }
+by_all schema keep = record { expanded = refl; resolved = refl; unbroken = refl; whole = tt; something = refl; other = refl }
 
 module _ (schema : Columns) (selectors : List Source) (keep : UniqueKeepStrategy) where
   module _ (names : List Name) (made : names_of_selectors schema selectors ≡ Ok names) where
     pub by_names : have_names schema names ≡ true → IsPlain schema (DistinctWork keep None) (selectors ∷ []) (DistinctWork keep (Some names))
     by_names stand =
-        record { expanded = refl; resolved = ap (λ r. then_ok r (λ found. Ok (DistinctWork keep (Some found)))) made; unbroken = ap (λ b. kind_where (not b) ColumnNotFound) stand; whole = tt; keeps = refl; columns = refl; something = refl }
+        record { expanded = refl; resolved = ap (λ r. then_ok r (λ found. Ok (DistinctWork keep (Some found)))) made; unbroken = ap (λ b. kind_where (not b) ColumnNotFound) stand; whole = tt; something = refl; other = refl }
 
     pub lacking : (error : PlanError) → have_names schema names ≡ false → error ≡ at_top ColumnNotFound → IsPlainRefusal schema (DistinctWork keep None) (selectors ∷ []) error
     lacking error lacks told = λ registry.

@@ -1,10 +1,10 @@
 -- What drops leave as lists that are made one by one, and simple projections of it over what was built.
-use Rattle.std.proofs.Common.{◌≡◌, ◌<◌, ◌+◌, ℕ, List, [], ◌∷◌, ◌++◌, drop, map, slice_get, length, Bool, true, false, cond, not, ◌&&◌, ◌||◌, is_some, Some, None, Ok, Err, refl, sym, ap, ◌∙◌, arith}
+use Rattle.std.proofs.Common.{◌≡◌, ◌<◌, ◌+◌, ℕ, List, [], ◌∷◌, ◌++◌, drop, map, slice_get, length, Bool, true, false, cond, not, ◌&&◌, Some, None, Ok, Err, refl, sym, ap, ◌∙◌, arith}
 use Rattle.std.proofs.lemmas.List.Elements.{Contains-push}
 use Rattle.std.proofs.lemmas.Option.{slice_get_within, get_or_from_slice_get}
 use Rattle.plan_types.specs.Types.{Ty}
 use Rattle.plan_types.proofs.ListLemmas.{item_left}
-use Rattle.plan_types.specs.Schemas.{Name, Columns, same_name, type_at, with_column, is_among, names_of, HasDistinctNames}
+use Rattle.plan_types.specs.Schemas.{Name, Columns, with_column, is_among, HasDistinctNames}
 use Rattle.plan_types.specs.Errors.{at_top}
 use Rattle.plan_types.specs.declared.error.ErrorKind.TheVariants.{ColumnNotFound}
 use Rattle.plan_types.specs.declared.error.PlanError.{PlanError}
@@ -32,25 +32,11 @@ use Rattle.plan_lower.proofs.BuiltLemmas.{unexpanded_then}
 
 -- ---- columns one by one
 
--- a schema has a column of a name where it is one of its names
-pub named_there : (schema : Columns) (name : Name) → is_some (type_at schema name) ≡ is_among name (names_of schema)
-named_there [] name = refl
-named_there (column ∷ schema) name = elim (same_name name column.0) as (λ b. is_some (cond b (Some column.1) (type_at schema name)) ≡ (b || is_among name (names_of schema))) [ true ↦ refl | false ↦ named_there schema name ]
-
 -- one column more was looked at
 pub kept_more : (names : List Name) (own new : Columns) (column : Name × Ty) (rest whole : Columns) → HasDistinctNames whole → own ++ columns_but names (column ∷ rest) ≡ columns_but names whole → new ≡ cond (is_among column.0 names) own (with_column own column.0 column.1) → new ++ columns_but names rest ≡ columns_but names whole
 kept_more names own new column rest whole distinct so_far next =
     let kept = distinct_from_test (columns_but names whole) (distinct_kept (λ (c : Name × Ty). c.0) (λ c. not (is_among c.0 names)) whole (test_from_distinct whole distinct)) in
     elim (is_among column.0 names) as (λ b. own ++ cond (not b) (column ∷ columns_but names rest) (columns_but names rest) ≡ columns_but names whole → new ≡ cond b own (with_column own column.0 column.1) → new ++ columns_but names rest ≡ columns_but names whole) [ true ↦ λ s n. ap (λ l. l ++ columns_but names rest) n ∙ s | false ↦ λ s n. ap (λ l. l ++ columns_but names rest) n ∙ copied_more own column (columns_but names rest) (columns_but names whole) kept s ] so_far next
-
--- names one by one: those that are left decide, where one is there, and none where it isn't
-pub names_more : (schema : Columns) (names rest : List Name) (name : Name) (all : Bool) → names ≡ name ∷ rest → is_some (type_at schema name) ≡ true → have_names schema names ≡ all → have_names schema rest ≡ all
-names_more schema names rest name all is there so_far =
-    sym (ap (λ b. b && have_names schema rest) (sym (named_there schema name) ∙ there)) ∙ sym (ap (have_names schema) is) ∙ so_far
-
-pub names_end : (schema : Columns) (names rest : List Name) (name : Name) (all : Bool) → names ≡ name ∷ rest → is_some (type_at schema name) ≡ false → have_names schema names ≡ all → false ≡ all
-names_end schema names rest name all is absent so_far =
-    sym (ap (λ b. b && have_names schema rest) (sym (named_there schema name) ∙ absent)) ∙ sym (ap (have_names schema) is) ∙ so_far
 
 -- what is kept of columns, by the column of a number
 pub kept_at : (names : List Name) (own new whole : Columns) (i : ℕ) (column : Name × Ty) → HasDistinctNames whole → slice_get whole i ≡ Some column → own ++ columns_but names (drop i whole) ≡ columns_but names whole → new ≡ cond (is_among column.0 names) own (with_column own column.0 column.1) → new ++ columns_but names (drop (i + 1) whole) ≡ columns_but names whole

@@ -5,6 +5,7 @@ pub mod DropLemmas
 pub mod ExamplePlanLemmas
 pub mod ExpressionFieldLemmas
 pub mod FilterLemmas
+mod FunctionLemmas
 pub mod GroupLemmas
 mod HorizontalLemmas
 pub mod NodeLemmas

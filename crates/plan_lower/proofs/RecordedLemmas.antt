@@ -1,6 +1,6 @@
 -- Schemas that items of plans record, and columns that are put into one.
 use Rattle.std.proofs.Common.{◌≡◌, ◌<◌, ◌+◌, ℕ, List, [], ◌∷◌, ◌++◌, length, map, drop, Option, Some, None, is_some, unwrap_or, IsTrue, slice_get, refl, sym, ap, ◌∙◌, subst, arith}
-use Rattle.std.proofs.lemmas.Option.{slice_get_within, slice_get-get_or, get_or_from_slice_get}
+use Rattle.std.proofs.lemmas.Option.{slice_get_within, get_or_from_slice_get}
 use Rattle.std.proofs.lemmas.List.{length-map}
 use Rattle.plan_types.specs.Types.{Ty}
 use Rattle.plan_types.specs.Schemas.{Name, Columns, with_column}
@@ -57,8 +57,3 @@ pub columns_more : (whole new others all : Columns) (i : ℕ) (c : Name × Ty) �
 columns_more whole new others all i c at before put =
     let left = item_left others i c c (slice_get_within others i c at) (sym (get_or_from_slice_get others i c c at)) in
     ap (λ w. with_columns w (drop (i + 1) others)) put ∙ ap (with_columns whole) (sym left) ∙ before
-
--- at a number below theirs there is a column
-pub column_there : (others : Columns) (i : ℕ) → i < length others → slice_get others i ≡ None → ⊥
-column_there [] i within none = omega arith
-column_there (c ∷ others) i within none = let found = slice_get-get_or (c ∷ others) i c within in cc

@@ -1,11 +1,11 @@
 -- Nodes over one input, whatever they do: what is built over an input that is built, what stands for a query's node, and why
 -- one isn't lowered.
-use Rattle.std.proofs.Common.{◌≡◌, ◌⊎◌, inl, inr, ℕ, List, [], ◌∷◌, ◌++◌, map, Bool, true, false, is_some, Option, Some, None, Result, Ok, Err, cond, refl, sym, ap, ◌∙◌, subst}
+use Rattle.std.proofs.Common.{◌≡◌, ◌⊎◌, inl, inr, ℕ, List, [], ◌∷◌, ◌++◌, map, Bool, true, false, is_some, Option, Some, None, Result, Ok, Err, cond, slice_get, refl, sym, ap, ◌∙◌, subst, arith}
 use Rattle.std.specs.List.{AllByRecursion, Contains}
 use Rattle.std.proofs.lemmas.List.{map-append}
 use Rattle.std.proofs.lemmas.List.Elements.{Contains-append_left, Contains-push}
 use Rattle.plan_types.specs.Errors.{no_memory, at_top}
-use Rattle.plan_types.specs.Outcomes.{Outcome}
+use Rattle.plan_types.specs.Outcomes.{Outcome, Done, Fault, Stuck, then_do}
 use Rattle.plan_types.specs.Frames.{Frame}
 use Rattle.plan_types.specs.Schemas.{Name, Columns, names_of, type_at}
 use Rattle.plan_types.specs.Types.{Ty}
@@ -18,8 +18,8 @@ use Rattle.plan_dsl.specs.Names.{name_of}
 use Rattle.plan_dsl.specs.Ops.{Expression}
 use Rattle.plan_dsl.specs.PlanKernels.{gives_nothing, plan_kernel}
 use Rattle.plan_dsl.specs.PlanMeaning.{by_meaning, source_meaning, FitsPlan}
-use Rattle.plan_dsl.specs.PlanRules.{TypedOutput, broken_kinds, columns_of, keeps_schema, kind_where, list_type_kinds, names_in, plan_rule, schema_of, type_kinds, typed_kinds}
-use Rattle.plan_dsl.specs.Plans.{Named, OverKind, Plan, PlanOp, SelectWork, SimpleProjectionWork, SourcePlan, Work, empty_table, expressions_of, named, over_input, over_op, scan_op, select_op, simple_projection_op, source_over}
+use Rattle.plan_dsl.specs.PlanRules.{TypedOutput, broken_kinds, columns_of, keeps_schema, kind_where, list_type_kinds, names_in, plan_rule, schema_of, type_kinds, typed_kinds, work_kinds}
+use Rattle.plan_dsl.specs.Plans.{Named, OverKind, PassWork, Plan, PlanOp, SamePass, SelectWork, SimpleProjectionWork, SourcePlan, Work, empty_table, expressions_of, named, over_input, over_op, scan_op, select_op, simple_projection_op, source_over}
 use Rattle.plan_dsl.specs.Registry.{Registry}
 use Rattle.plan_dsl.specs.Expansion.{expansions}
 use Rattle.plan_dsl.specs.Refusals.{then_ok}
@@ -27,13 +27,15 @@ use Rattle.plan_dsl.specs.Resolving.{expanded_each, in_front_of, over_expanded, 
 use Rattle.plan_dsl.specs.Sources.{Source}
 use Rattle.plan_dsl.specs.Trees.{node, no_more, more}
 use Rattle.plan_dsl.specs.Typing.{Typed, typing}
+use Rattle.plan_dsl.proofs.FrameLemmas.{fits_input}
 use Rattle.plan_dsl.proofs.KernelLemmas.{ListsAgreeOn, lists_agree, over_agrees}
 use Rattle.plan_dsl.proofs.ResolvingLemmas.{work_resolved}
 use Rattle.plan_dsl.proofs.RuleLemmas.{first_refused, kinds_of_one, types_refused, work_has_schema}
 use Rattle.plan_arena.specs.declared.aexpr.AExpr.{AExpr}
 use Rattle.plan_arena.specs.declared.ir.IR.{IR}
 use Rattle.plan_arena.specs.Denotation.{Denotes}
-use Rattle.plan_arena.specs.Items.{Grows, HoldsPlan}
+use Rattle.plan_arena.specs.Items.{Grows, HoldsPlan, plan_layer}
+use Rattle.plan_arena.specs.Layers.{Layer, layer}
 use Rattle.plan_arena.specs.Runs.{AreStrict, HasRecorded, HaveOwnNames, by_running, plan_run}
 use Rattle.plan_arena.proofs.ItemLemmas.{plan_tree_kept}
 use Rattle.plan_bounds.specs.Bounds.{IsBounded}
@@ -48,7 +50,7 @@ use Rattle.plan_lower.specs.Lowering.{IsBuilt, IsEmptyTableAt, IsPlanRefusal, St
 use Rattle.plan_lower.specs.Nodes.{KeepsExpressions}
 use Rattle.plan_lower.specs.Outputs.{IsLowered, Lowered, lowered_column, lowered_named}
 use Rattle.plan_lower.specs.Projection.{IsOutputRefusal, IsProjectionRefusal, against, no_room, out_of_memory as no_space, refused, untyped}
-use Rattle.plan_lower.specs.Works.{AreUnbroken, IsWorkAt, IsWorkRefusal, against_a_rule, lowered_lists, lowered_names, lowered_output, recorded_of, source_lists, unbroken_schema, unresolved, without_memory}
+use Rattle.plan_lower.specs.Works.{AreUnbroken, IsItemAt, IsWorkAt, IsWorkRefusal, against_a_rule, is_same, lowered_lists, lowered_names, lowered_output, recorded_of, source_lists, unbroken_schema, unresolved, without_memory}
 use Rattle.plan_lower.proofs.BuiltLemmas.{agree, each_after_typed, each_named, each_strict, each_typed, each_wide, each_within, output_label, output_typed, over_built, over_schema, refused_over, unexpanded_then, unresolved_refused}
 
 abbrev pub source_outputs : List Lowered → List (Named Expression)
@@ -100,6 +102,24 @@ under nothing input = cond nothing empty_table input
 under_denoted : (items : List AExpr) (plans : List IR) (n input : ℕ) (nothing : Bool) (t : Plan) → (nothing ≡ true → IsEmptyTableAt plans n) → (nothing ≡ false → n ≡ input) → Denotes (HoldsPlan items plans) input t → Denotes (HoldsPlan items plans) n (under nothing t)
 under_denoted items plans n input true t empty same d = empty_denoted items plans n (empty refl)
 under_denoted items plans n input false t empty same d = subst (λ k. Denotes (HoldsPlan items plans) k t) (sym (same refl)) d
+
+-- nothing is done by one work alone, and without lists; the node of any other is an item
+same_is : (own : Work) → is_same own ≡ true → own ≡ PassWork SamePass
+same_is (PassWork SamePass) e = refl
+same_is own e = absurd cc
+
+no_lists : (schema : Columns) (outputs : List (List Lowered)) → work_kinds (PassWork SamePass) schema (map lowered_names outputs) ≡ [] → outputs ≡ []
+no_lists schema [] e = refl
+no_lists schema (list ∷ outputs) e = absurd cc
+
+item_held : (own : Work) (plans : List IR) (n input : ℕ) (item : Layer (PlanOp (Named ℕ))) → is_same own ≡ false → IsItemAt own plans n input item → slice_get (map plan_layer plans) n ≡ Some item
+item_held (PassWork SamePass) plans n input item other is = absurd cc
+item_held own plans n input item other is = is
+
+done_again : (outcome : Outcome Frame) → outcome ≡ then_do outcome (λ frame. Done frame)
+done_again (Done frame) = refl
+done_again Fault = refl
+done_again Stuck = refl
 
 module _ (registry : Registry) where
   abbrev AreLowered : Columns → List (List Lowered) → Type 0
@@ -175,21 +195,67 @@ module _ (registry : Registry) where
   built_under work lists source lowered schema built are whole false e =
       work_built work (recorded_of work (unbroken_schema work schema lists)) lists source lowered schema built are (recorded_has (keeps_schema work) (unbroken_schema work schema lists)) whole
 
-  -- a node that does the work over what its input becomes stands for the query's
-  pub work_stands : (work : Work) (lists : List (List Source)) (items items' : List AExpr) (plans new : List IR) (input n : ℕ) (schema own : Columns) (source : SourcePlan) → KeepsExpressions items items' → Grows plans new → StandsFor registry items plans input schema (resolved registry source) → IsWorkAt registry schema items' new n input work lists own → StandsFor registry items' new n own (resolved registry (source_over work lists source))
-  work_stands work lists items items' plans new input n schema own source keeps grows s is =
-      let nothing = gives_nothing is.own (map lowered_names is.outputs) in
-      let kept = plan_tree_kept items items' plans new keeps grows input s.lowered s.denotes in
-      let child = under_denoted items' new is.below input nothing s.lowered is.nothing is.something kept in
-      let lowered = node (over_op is.own (lowered_lists is.outputs) (recorded_of is.own own)) (more (under nothing s.lowered) no_more) in
-      let there = work_resolved registry work is.own lists is.trees source schema s.built.source_schema is.expanded is.resolved ∙ ap (λ es. node (over_op is.own es None) (more (resolved registry source) no_more)) (named_trees is.outputs is.trees is.trees_are) in
-      let built = built_under is.own is.outputs (resolved registry source) s.lowered schema s.built is.unbroken is.whole nothing refl in
-      let same = subst (λ c. IsBuilt registry (node (over_op is.own (source_lists is.outputs) None) (more (resolved registry source) no_more)) (node (over_op is.own (lowered_lists is.outputs) (recorded_of is.own c)) (more (under nothing s.lowered) no_more)) c) (sym is.columns_are) built in
+  -- where nothing is done, what was built from the input is built from the node
+  same_built : (source lowered : Plan) (schema : Columns) → IsBuilt registry source lowered schema → IsBuilt registry (node (over_op (PassWork SamePass) [] None) (more source no_more)) lowered schema
+  same_built source lowered schema built =
+      let op : PlanOp (Named Expression) = over_op (PassWork SamePass) [] None in
+      let there = over_schema registry op source schema schema built.source_schema refl in
       record {
-        lowered = lowered;
-        denotes = (is.below ∷ [], record { flat = over_op is.own is.nodes (recorded_of is.own own); item = is.item; denotes = record { same_recorded = refl; kind = (lowered_lists is.outputs, refl, is.denote) } }, (child, tt));
-        built = subst (λ p. IsBuilt registry p lowered own) (sym there) same;
+        well_formed = (ap is_some there, (built.well_formed, tt));
+        source_schema = there;
+        lowered_schema = built.lowered_schema;
+        accepted = built.accepted;
+        strict = built.strict;
+        names = built.names;
+        wide = built.wide;
+        split = built.split;
+        fits = λ tables f. built.fits tables (fits_input tables op source f);
+        same = λ tables f. built.same tables (fits_input tables op source f) ∙ done_again (source_meaning registry tables source);
+        bounds = record {
+          casts = let below = built.bounds.casts in omega (arith, below);
+          idle = let below = built.bounds.idle in omega (arith, below);
+          size = let below = built.bounds.size in omega (arith, below);
+        };
       }
+
+  module _ (work : Work) (lists : List (List Source)) (items items' : List AExpr) (plans new : List IR) (input n : ℕ) (schema own : Columns) (source : SourcePlan) (keeps : KeepsExpressions items items') (grows : Grows plans new) (s : StandsFor registry items plans input schema (resolved registry source)) (is : IsWorkAt registry schema items' new n input work lists own) where
+    kept_input : Denotes (HoldsPlan items' new) input s.lowered
+    kept_input = plan_tree_kept items items' plans new keeps grows input s.lowered s.denotes
+
+    is_resolved : resolved registry (source_over work lists source) ≡ node (over_op is.own (source_lists is.outputs) None) (more (resolved registry source) no_more)
+    is_resolved = work_resolved registry work is.own lists is.trees source schema s.built.source_schema is.expanded is.resolved ∙ ap (λ es. node (over_op is.own es None) (more (resolved registry source) no_more)) (named_trees is.outputs is.trees is.trees_are)
+
+    same_stands : is.own ≡ PassWork SamePass → StandsFor registry items' new n own (resolved registry (source_over work lists source))
+    same_stands same =
+        let kinds = ap (λ w. work_kinds w schema (map lowered_names is.outputs)) (sym same) ∙ is.unbroken.kinds in
+        let none = no_lists schema is.outputs kinds in
+        let at = subst (λ w. IsItemAt w new n is.below (layer (over_op is.own is.nodes (recorded_of is.own own)) (is.below ∷ []))) same is.item in
+        let below = is.something (ap (λ w. gives_nothing w (map lowered_names is.outputs)) same) in
+        let columns = is.columns_are ∙ ap (λ w. unbroken_schema w schema is.outputs) same in
+        let there = is_resolved ∙ ap (λ w. node (over_op w (source_lists is.outputs) None) (more (resolved registry source) no_more)) same ∙ ap (λ os. node (over_op (PassWork SamePass) (source_lists os) None) (more (resolved registry source) no_more)) none in
+        record {
+          lowered = s.lowered;
+          denotes = subst (λ m. Denotes (HoldsPlan items' new) m s.lowered) (sym (at ∙ below)) kept_input;
+          built = subst (λ c. IsBuilt registry (resolved registry (source_over work lists source)) s.lowered c) (sym columns) (subst (λ p. IsBuilt registry p s.lowered schema) (sym there) (same_built (resolved registry source) s.lowered schema s.built));
+        }
+
+    item_stands : is_same is.own ≡ false → StandsFor registry items' new n own (resolved registry (source_over work lists source))
+    item_stands other =
+        let nothing = gives_nothing is.own (map lowered_names is.outputs) in
+        let child = under_denoted items' new is.below input nothing s.lowered is.nothing is.something kept_input in
+        let lowered = node (over_op is.own (lowered_lists is.outputs) (recorded_of is.own own)) (more (under nothing s.lowered) no_more) in
+        let built = built_under is.own is.outputs (resolved registry source) s.lowered schema s.built is.unbroken is.whole nothing refl in
+        let same = subst (λ c. IsBuilt registry (node (over_op is.own (source_lists is.outputs) None) (more (resolved registry source) no_more)) (node (over_op is.own (lowered_lists is.outputs) (recorded_of is.own c)) (more (under nothing s.lowered) no_more)) c) (sym is.columns_are) built in
+        record {
+          lowered = lowered;
+          denotes = (is.below ∷ [], record { flat = over_op is.own is.nodes (recorded_of is.own own); item = item_held is.own new n is.below _ other is.item; denotes = record { same_recorded = refl; kind = (lowered_lists is.outputs, refl, is.denote) } }, (child, tt));
+          built = subst (λ p. IsBuilt registry p lowered own) (sym is_resolved) same;
+        }
+
+    -- a node that does the work over what its input becomes stands for the query's
+    pub work_stands : StandsFor registry items' new n own (resolved registry (source_over work lists source))
+    work_stands =
+        elim (is_same is.own) as (λ b. is_same is.own ≡ b → StandsFor registry items' new n own (resolved registry (source_over work lists source))) [ true ↦ λ e. same_stands (same_is is.own e) | false ↦ λ e. item_stands e ] refl
 
   -- and a refusal of it is one of the query's node
   pub work_refused : (work : Work) (lists : List (List Source)) (schema : Columns) (source : SourcePlan) (error : PlanError) → schema_of registry (resolved registry source) ≡ Some schema → IsWorkRefusal registry schema work lists error → IsPlanRefusal registry (resolved registry (source_over work lists source)) error

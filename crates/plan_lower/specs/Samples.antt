@@ -8,7 +8,8 @@ use Rattle.plan_dsl.specs.Ops.{Expression}
 use Rattle.plan_dsl.specs.Plans.{PlanOp, Plan, Named, named, scan_op, select_op, filter_op}
 use Rattle.plan_dsl.specs.Samples.{one_value}
 use Rattle.plan_dsl.specs.Typing.{Typed}
-use Rattle.plan_dsl.specs.declared.function.DslFunction.TheVariants.{FunctionIR as OfFunctionIR}
+use Rattle.plan_dsl.specs.declared.function.DslFunction.TheVariants.{FunctionIR as OfFunctionIR, Stats}
+use Rattle.plan_dsl.specs.declared.function.StatsFunction.TheVariants.{Sum}
 use Rattle.plan_dsl.specs.declared.function.FunctionIR.TheVariants.{Rechunk}
 use Rattle.plan_dsl.specs.declared.plan.SinkType.TheVariants.{Memory}
 use Rattle.plan_arena.specs.Layers.{Layer, layer}
@@ -112,4 +113,4 @@ at_zero = record { node = node_at 0; schema_node = node_at 0 }
 
 -- steps without expressions
 abbrev pub plain_steps : List Step
-plain_steps = Unexpressed (Slice (pos 1) 2) ∷ Unexpressed (Cache 7) ∷ Unexpressed (Sink Memory) ∷ Function (OfFunctionIR Rechunk) ∷ []
+plain_steps = Unexpressed (Slice (pos 1) 2) ∷ Unexpressed (Cache 7) ∷ Unexpressed (Sink Memory) ∷ Function (OfFunctionIR Rechunk) ∷ Function (Stats Sum) ∷ []

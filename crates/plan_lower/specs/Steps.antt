@@ -1,43 +1,35 @@
 -- What a plan's node does over its only input: its work and its lists, the plan that it makes of the input, and when lowered
 -- nodes stand for it.
-use Rattle.std.specs.Prelude.{◌≡◌, ℕ, List, [], ◌∷◌, ◌++◌, None, Result, OnOk, IfOk, IfErr}
+use Rattle.std.specs.Prelude.{◌≡◌, ℕ, List, [], ◌∷◌, ◌++◌, map, slice_get, None, Some, Result, OnOk, IfOk, IfErr}
 use Rattle.std.specs.Option.{option_map}
 use Rattle.plan_types.specs.Schemas.{Columns}
 use Rattle.plan_types.specs.declared.error.PlanError.{PlanError}
 use Rattle.plan_dsl.specs.Expressions.{selector_trees, tree_of, trees_of}
-use Rattle.plan_dsl.specs.Plans.{CachePass, DistinctWork, DropWork, FilterWork, GroupByWork, HStackWork, HitsOption, OrderOption, PassWork, PlanOption, ProjectionOption, RechunkPass, SelectWork, SinkPass, SliceWork, SourcePlan, Work, function_work, sort_work, source_over, subset_lists, unknown_hits}
+use Rattle.plan_dsl.specs.FunctionSchemas.{IsOneOf}
+use Rattle.plan_dsl.specs.PlanRules.{work_kinds, work_schema}
+use Rattle.plan_dsl.specs.declared.function.FunctionIR.{FunctionIR}
+use Rattle.plan_dsl.specs.Plans.{CachePass, DistinctWork, FilterWork, GroupByWork, HStackWork, HitsOption, OrderOption, PassWork, PlanOption, ProjectionOption, SelectWork, SinkPass, SliceWork, SourcePlan, Work, call_lists, call_option, call_work, function_work, over_op, sort_work, source_over, subset_lists, unknown_hits}
 use Rattle.plan_dsl.specs.Registry.{Registry}
 use Rattle.plan_dsl.specs.Sources.{Source}
-use Rattle.plan_dsl.specs.declared.function.DslFunction.{DslFunction}
-use Rattle.plan_dsl.specs.declared.function.DslFunction.TheVariants.{Drop, FunctionIR as OfFunctionIR}
 use Rattle.plan_arena.specs.declared.aexpr.AExpr.{AExpr}
 use Rattle.plan_arena.specs.declared.ir.IR.{IR}
-use Rattle.plan_arena.specs.Items.{Grows}
+use Rattle.plan_arena.specs.Items.{Grows, plan_layer}
+use Rattle.plan_arena.specs.Layers.{layer}
 use Rattle.plan_arena.specs.Options.{options_of}
 use Rattle.plan_lower.specs.declared.conversion.step.LoweredNode.{LoweredNode}
 use Rattle.plan_lower.specs.declared.conversion.step.Step.{Step}
 use Rattle.plan_lower.specs.declared.conversion.step.Plain.{Plain}
-use Rattle.plan_lower.specs.declared.conversion.step.Plain.TheVariants.{Cache, Rechunk, Sink, Slice}
+use Rattle.plan_lower.specs.declared.conversion.step.Plain.TheVariants.{Cache, Sink, Slice}
 use Rattle.plan_lower.specs.declared.conversion.step.Step.TheVariants.{Distinct, Filter, Function, GroupBy, HStack, Plain as Unexpressed, Select, Sort}
 use Rattle.plan_lower.specs.Lowering.{IsFilterAt, Records, columns_at}
 use Rattle.plan_lower.specs.Nodes.{KeepsExpressions}
 use Rattle.plan_lower.specs.Works.{IsPlainAt, IsPlainRefusal, IsWorkAt, IsWorkRefusal}
-
--- what a function over a frame does, and its lists
-abbrev pub call_work : DslFunction → Work
-call_work (Drop function) = DropWork function.strict
-call_work (OfFunctionIR function) = function_work function
-
-abbrev pub call_lists : DslFunction → List (List Source)
-call_lists (Drop function) = selector_trees function.to_drop ∷ []
-call_lists (OfFunctionIR function) = []
 
 -- what a node without expressions does, and its option, if it has one
 abbrev pub plain_work : Plain → Work
 plain_work (Slice offset len) = SliceWork offset len
 plain_work (Cache id) = PassWork (CachePass id)
 plain_work (Sink payload) = PassWork SinkPass
-plain_work Rechunk = PassWork RechunkPass
 
 abbrev pub plain_option : Plain → List PlanOption
 plain_option (Cache id) = HitsOption unknown_hits ∷ []
@@ -74,7 +66,7 @@ step_option (Filter predicate) = []
 step_option (Select exprs options) = ProjectionOption options ∷ []
 step_option (HStack exprs options) = ProjectionOption options ∷ []
 step_option (GroupBy keys aggs maintain_order) = OrderOption maintain_order ∷ []
-step_option (Function function) = []
+step_option (Function function) = call_option function
 step_option (Distinct options) = OrderOption options.maintain_order ∷ []
 step_option (Sort by options) = []
 step_option (Unexpressed plain) = plain_option plain
@@ -109,3 +101,12 @@ pub record LowersPlainly (work : Work) (lists : List (List Source)) (own : List 
   pub ok : IfOk result (λ lowered. IsPlainAt (columns_at old input.schema_node.0) new lowered.node.0 input.node.0 work lists (columns_at new lowered.schema_node.0))
   pub err : IfErr result (IsPlainRefusal (columns_at old input.schema_node.0) work lists)
   pub adds : AddsStep old new own result
+
+-- What the node of a function over an input that records a schema is, where the function breaks no rule over that: it records
+-- what the function makes of it.
+pub record AddsFunction (function : FunctionIR) (input : LoweredNode) (old new : List IR) (result : Result LoweredNode PlanError) : Type 0 where
+  pub unbroken : IfOk result (λ lowered. work_kinds (function_work function) (columns_at old input.schema_node.0) [] ≡ [])
+  pub columns : IfOk result (λ lowered. columns_at new lowered.schema_node.0 ≡ work_schema (function_work function) (columns_at old input.schema_node.0) [])
+  pub item : IfOk result (λ lowered. slice_get (map plan_layer new) lowered.node.0 ≡ Some (layer (over_op (function_work function) [] (Some (columns_at new lowered.schema_node.0))) (input.node.0 ∷ [])))
+  pub err : IfErr result (IsOneOf (work_kinds (function_work function) (columns_at old input.schema_node.0) []))
+  pub adds : AddsStep old new [] result

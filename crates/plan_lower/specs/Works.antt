@@ -1,5 +1,5 @@
 -- A node over one input, whatever it does: when a lowered node is the one that a query has, and why one isn't lowered.
-use Rattle.std.specs.Prelude.{◌≡◌, ℕ, List, [], ◌∷◌, map, Option, Some, None, true, false, Ok, slice_get, if◌then◌else◌}
+use Rattle.std.specs.Prelude.{◌≡◌, ℕ, List, [], ◌∷◌, map, Option, Some, None, Bool, true, false, Ok, slice_get, if◌then◌else◌}
 use Rattle.std.specs.List.{AllByRecursion, Contains, flat_map}
 use Rattle.plan_types.specs.Errors.{no_memory, at_top}
 use Rattle.plan_types.specs.Schemas.{Name, Columns}
@@ -9,14 +9,14 @@ use Rattle.plan_dsl.specs.Names.{name_of}
 use Rattle.plan_dsl.specs.Ops.{Expression}
 use Rattle.plan_dsl.specs.PlanKernels.{gives_nothing}
 use Rattle.plan_dsl.specs.PlanRules.{TypedOutput, broken_kinds, keeps_schema, type_kinds, work_kinds, work_schema}
-use Rattle.plan_dsl.specs.Plans.{Named, OverKind, Work, named, over_op}
+use Rattle.plan_dsl.specs.Plans.{Named, OverKind, PassWork, PlanOp, SamePass, Work, named, over_op}
 use Rattle.plan_dsl.specs.Registry.{Registry}
 use Rattle.plan_dsl.specs.Resolving.{expanded_lists, expanded_over, resolved_work}
 use Rattle.plan_dsl.specs.Sources.{Source}
 use Rattle.plan_arena.specs.declared.aexpr.AExpr.{AExpr}
 use Rattle.plan_arena.specs.declared.ir.IR.{IR}
 use Rattle.plan_arena.specs.Items.{DenoteLists, plan_layer}
-use Rattle.plan_arena.specs.Layers.{layer}
+use Rattle.plan_arena.specs.Layers.{Layer, layer}
 use Rattle.plan_expand.specs.Refusals.{IsUnexpanded}
 use Rattle.plan_properties.specs.Splitting.{IsWhole}
 use Rattle.plan_lower.specs.Lowering.{IsEmptyTableAt}
@@ -45,6 +45,16 @@ pub record AreUnbroken (registry : Registry) (schema : Columns) (work : Work) (l
 abbrev pub unbroken_schema : Work → Columns → List (List Lowered) → Columns
 unbroken_schema work schema lists = work_schema work schema (map (map lowered_output) lists)
 
+-- whether it is nothing at all, so that the input's node stands for it
+abbrev pub is_same : Work → Bool
+is_same (PassWork SamePass) = true
+is_same work = false
+
+-- the node is this item, or where nothing is done the input
+abbrev pub IsItemAt : Work → List IR → ℕ → ℕ → Layer (PlanOp (Named ℕ)) → Type 0
+IsItemAt (PassWork SamePass) plans n input item = n ≡ input
+IsItemAt work plans n input item = slice_get (map plan_layer plans) n ≡ Some item
+
 -- what is recorded of a schema: none where it is the input's
 abbrev pub recorded_of : Work → Columns → Option Columns
 recorded_of work columns = if keeps_schema work then None else Some columns
@@ -66,18 +76,16 @@ pub record IsWorkAt (registry : Registry) (schema : Columns) (expressions : List
   pub below : ℕ
   pub nothing : gives_nothing own (map lowered_names outputs) ≡ true → IsEmptyTableAt plans below
   pub something : gives_nothing own (map lowered_names outputs) ≡ false → below ≡ input
-  pub item : slice_get (map plan_layer plans) n ≡ Some (layer (over_op own nodes (recorded_of own columns)) (below ∷ []))
+  pub item : IsItemAt own plans n below (layer (over_op own nodes (recorded_of own columns)) (below ∷ []))
 
--- The work over these lists is resolved over the schema to one without expressions, which breaks no rule and keeps that
--- schema.
+-- The work over these lists is resolved over the schema to one without expressions, which breaks no rule and has a node.
 pub record IsPlain (schema : Columns) (work : Work) (lists : List (List Source)) (own : Work) : Type 0 where
   pub expanded : expanded_lists schema work lists ≡ Ok []
   pub resolved : resolved_work schema work lists ≡ Ok own
   pub unbroken : work_kinds own schema [] ≡ []
   pub whole : IsWhole (OverKind own [])
-  pub keeps : keeps_schema own ≡ true
-  pub columns : work_schema own schema [] ≡ schema
   pub something : gives_nothing own [] ≡ false
+  pub other : is_same own ≡ false
 
 -- why it isn't lowered: memory ran out, it can't be resolved over the schema, or it breaks a rule
 pub data IsWorkRefusal (registry : Registry) (schema : Columns) (work : Work) (lists : List (List Source)) (error : PlanError) : Type 0 where

@@ -16,5 +16,6 @@ mod predicate;
 mod projection;
 mod put_copy;
 mod sorts;
+mod statistics;
 mod step;
 mod top_numbers;

@@ -201,7 +201,7 @@ single (Distinct input options) m e = ap (λ n. n ∷ []) (same_Some _ m e)
 single (Slice input offset len) m e = ap (λ n. n ∷ []) (same_Some _ m e)
 single (Cache input id cache_hits) m e = ap (λ n. n ∷ []) (same_Some _ m e)
 single (Sink input payload) m e = ap (λ n. n ∷ []) (same_Some _ m e)
-single (MapFunction input function) m e = ap (λ n. n ∷ []) (same_Some _ m e)
+single (MapFunction input function schema) m e = ap (λ n. n ∷ []) (same_Some _ m e)
 single _ m e = cc
 
 -- an item over none, and one with a first input, which is its only one

@@ -1,6 +1,7 @@
 -- Columns that nothing keeps from being a frame are one, and their schema is copied name by name.
 use Rattle.std.proofs.Common.{◌≡◌, ℕ, zero, suc, ◌+◌, ◌<◌, List, [], ◌∷◌, ◌++◌, length, map, drop, get_or, Option, Some, None, is_none, true, false, IsTrue, cond, refl, sym, ap, ◌∙◌, ◌||◌, not, subst, append_assoc, append-nil, slice_get, unwrap_or, Bool}
 use Rattle.std.proofs.lemmas.List.{drop_more, map-append}
+use Rattle.std.proofs.lemmas.Option.{slice_get_within, get_or_from_slice_get}
 use Rattle.std.specs.List.{AllByRecursion, list_any, range_with_len}
 use Rattle.std.specs.Borrow.{Bor}
 use Rattle.indexmap.specs.IndexSet.{insert_key}
@@ -14,7 +15,7 @@ use Rattle.plan_types.specs.declared.column.Column.{Column}
 use Rattle.plan_types.specs.declared.frame.Frame.{Frame}
 use Rattle.plan_types.specs.declared.frame.FrameError.{FrameError}
 use Rattle.plan_types.specs.declared.frame.FrameError.TheVariants.{Duplicate, Misfit}
-use Rattle.plan_types.proofs.ListLemmas.{map-map}
+use Rattle.plan_types.proofs.ListLemmas.{item_left, map-map}
 use Rattle.plan_types.proofs.NameLemmas.{repeats-push}
 use Rattle.plan_types.proofs.SchemaLemmas.{distinct_from_test, copied_more}
 
@@ -48,6 +49,12 @@ value_fits : (row : ℕ) (name : Name) (type : Ty) (values : List Val) → misfi
 value_fits row name type [] h number = refl
 value_fits row name type (value ∷ values) h zero = (fitting_parts row name type value values h).0
 value_fits row name type (value ∷ values) h (suc number) = value_fits (row + 1) name type values (fitting_parts row name type value values h).1 number
+
+-- the value in the row that is looked at
+pub met_value : (row : ℕ) (name : Name) (type : Ty) (values : List Val) (value : Val) (b : Bool) → slice_get values row ≡ Some value → fits value type ≡ b → misfit_from row name type (drop row values) ≡ cond b (misfit_from (row + 1) name type (drop (row + 1) values)) (Some (Misfit name row))
+met_value row name type values value b at e =
+    let left = item_left values row value value (slice_get_within values row value at) (sym (get_or_from_slice_get values row value value at)) in
+    ap (misfit_from row name type) left ∙ ap (λ b. cond b (misfit_from (row + 1) name type (drop (row + 1) values)) (Some (Misfit name row))) e
 
 row_fits : (columns : List Column) → misfit columns ≡ None → (number : ℕ) → RowFits (heads_of columns) (row_of columns number)
 row_fits [] h number = tt

@@ -8,7 +8,6 @@ use Rattle.plan_types.specs.FrameFaults.{shown, repeated_name, other_length, mis
 use Rattle.plan_types.specs.declared.column.Column.{Column}
 use Rattle.plan_types.specs.declared.frame.FrameError.TheVariants.{Duplicate, Length}
 use Rattle.plan_types.proofs.ListLemmas.{map-map}
-use Rattle.plan_types.proofs.FrameRowLemmas.{length-vals}
 
 same_front : (c d : Column) (cs ds : List Column) → map shown (c ∷ cs) ≡ map shown (d ∷ ds) → shown c ≡ shown d
 same_front c d cs ds e = cc
@@ -17,7 +16,7 @@ same_behind : (c d : Column) (cs ds : List Column) → map shown (c ∷ cs) ≡ 
 same_behind c d cs ds e = cc
 
 same_count : (c d : Column) → shown c ≡ shown d → count_of c ≡ count_of d
-same_count c d e = sym (length-vals c) ∙ ap (λ s. length s.1) e ∙ length-vals d
+same_count c d e = ap (λ s. length s.1) e
 
 same_names : (before : List Name) (cs ds : List Column) → map shown cs ≡ map shown ds → repeated_name before cs ≡ repeated_name before ds
 same_names before [] [] e = refl

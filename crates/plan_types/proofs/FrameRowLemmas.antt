@@ -1,19 +1,19 @@
 -- The columns of a frame have its values, row by row.
-use Rattle.std.proofs.Common.{arith, ◌≡◌, ℕ, zero, suc, ◌<◌, ◌==◌, List, [], ◌∷◌, length, map, Some, None, true, false, cond, refl, sym, ap, ◌∙◌, subst, is_none, slice_get, unwrap_or}
-use Rattle.std.proofs.lemmas.List.{length-map}
+use Rattle.std.proofs.Common.{arith, ◌≡◌, ℕ, zero, suc, ◌+◌, ◌<◌, ◌==◌, List, [], ◌∷◌, length, map, drop, get_or, Some, None, true, false, cond, refl, sym, ap, ◌∙◌, subst, is_none, slice_get, unwrap_or}
 use Rattle.std.specs.List.{range_with_len}
 use Rattle.std.proofs.lemmas.Bool.{eqb-true}
 use Rattle.std.proofs.lemmas.Cmp.{nat_list_eq_equiv}
 use Rattle.std.proofs.lemmas.List.FromFn.{length-map-range_with_len, get_or-map-range_with_len}
 use Rattle.std.proofs.lemmas.Option.{slice_get-get_or, slice_get-map}
 use Rattle.std.specs.Option.{option_map}
+use Rattle.plan_types.specs.Types.{ty}
 use Rattle.plan_types.specs.Values.{Val, NullValue}
-use Rattle.plan_types.specs.ValueViews.{val_of}
-use Rattle.plan_types.specs.Schemas.{Name, same_name, IsNewName, HasDistinctNames}
+use Rattle.plan_types.specs.Schemas.{Name, same_name, type_at, IsNewName, HasDistinctNames}
 use Rattle.plan_types.specs.Frames.{value_in, row_at}
 use Rattle.plan_types.specs.FrameFaults.{count_of, head_of, heads_of, height_of, row_of, framed, vals_of, other_length, misfit, repeated_name, frame_fault}
 use Rattle.plan_types.specs.declared.column.Column.{Column}
 use Rattle.plan_types.specs.declared.frame.FrameError.TheVariants.{Length}
+use Rattle.plan_types.proofs.ListLemmas.{item_left}
 use Rattle.plan_types.proofs.SchemaLemmas.{IsNewName-head, IsNewName-tail}
 use Rattle.plan_types.proofs.FrameCallLemmas.{none_of_both, none_there, sound_is_frame}
 
@@ -51,9 +51,6 @@ row_there columns number within =
     let longer : number < length rows = subst (λ n. number < n) (sym (length-map-range_with_len (row_of columns) 0 (height_of columns))) within in
     ap (λ found. unwrap_or found []) (slice_get-get_or rows number [] longer ∙ ap Some (get_or-map-range_with_len (row_of columns) 0 (height_of columns) number number [] within (omega arith)))
 
-pub length-vals : (c : Column) → length (vals_of c.values) ≡ count_of c
-length-vals c = length-map c.values.items.items val_of
-
 -- a column of sound columns has as many values as there are rows
 pub column_height : (columns : List Column) (index : ℕ) (c : Column) → is_none (frame_fault columns) ≡ true → slice_get columns index ≡ Some c → count_of c ≡ length (framed columns).rows
 column_height columns index c h at =
@@ -70,5 +67,21 @@ column_values columns index c h at number within =
     let height = column_height columns index c h at ∙ length-map-range_with_len (row_of columns) 0 (height_of columns) in
     let row = row_there columns number (subst (λ n. number < n) height within) in
     let value = ap (value_in (heads_of columns) c.name) row ∙ value_there columns index c number (sound_is_frame columns h).distinct at in
-    let there = slice_get-get_or (vals_of c.values) number NullValue (subst (λ n. number < n) (sym (length-vals c)) within) in
+    let there = slice_get-get_or (vals_of c.values) number NullValue within in
     there ∙ ap Some (sym (value ∙ ap (λ found. unwrap_or found NullValue) there))
+
+-- under any name that is the column's
+pub named_values : (columns : List Column) (index : ℕ) (c : Column) (name : Name) → is_none (frame_fault columns) ≡ true → slice_get columns index ≡ Some c → c.name ≡ name → (number : ℕ) → number < count_of c → slice_get (vals_of c.values) number ≡ Some (value_in (heads_of columns) name (row_at (framed columns) number))
+named_values columns index c name h at same number within =
+    column_values columns index c h at number within ∙ ap (λ n. Some (value_in (heads_of columns) n (row_at (framed columns) number))) same
+
+-- the column that a loop over columns is at
+pub column_at : (items columns : List Column) (index : ℕ) (c : Column) → items ≡ columns → index < length items → c ≡ get_or items index c → slice_get columns index ≡ Some c
+column_at items columns index c all within is =
+    subst (λ l. slice_get l index ≡ Some c) all (slice_get-get_or items index c within ∙ ap Some (sym is))
+
+-- a column of another name is passed by
+pub other_passed : (columns : List Column) (index : ℕ) (c : Column) (name : Name) → index < length columns → c ≡ get_or columns index c → same_name c.name name ≡ false → type_at (heads_of (drop index columns)) name ≡ type_at (heads_of (drop (index + 1) columns)) name
+other_passed columns index c name within is other =
+    let later = heads_of (drop (index + 1) columns) in
+    ap (λ l. type_at (heads_of l) name) (item_left columns index c c within is) ∙ ap (λ b. cond b (Some (ty c.dtype)) (type_at later name)) (nat_list_eq_equiv.symm name c.name ∙ other)

@@ -21,4 +21,5 @@ pub mod SchemaPairLemmas
 pub mod SuperFieldLemmas
 pub mod SupertypeLemmas
 pub mod TextLemmas
+pub mod TypeOrderLemmas
 pub mod ValueLemmas

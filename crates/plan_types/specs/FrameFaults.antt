@@ -30,7 +30,7 @@ shown column = (head_of column, vals_of column.values)
 
 -- how many values the column has
 abbrev pub count_of : Column → ℕ
-count_of column = length column.values.items.items
+count_of column = length (vals_of column.values)
 
 -- how many rows there are: without columns none
 abbrev pub height_of : List Column → ℕ

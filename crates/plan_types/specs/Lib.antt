@@ -14,6 +14,7 @@ pub mod Schemas
 pub mod Supertypes
 pub mod Texts
 pub mod TypeLaws
+pub mod TypeOrder
 pub mod Types
 pub mod ValueLaws
 pub mod Values

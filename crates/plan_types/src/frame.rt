@@ -2,7 +2,7 @@
 ghost use Rattle.std.specs.Prelude.{◌≡◌, [], None, true, is_none, IfOk, IfErr, OnOk};
 ghost use Rattle.plan_types.specs.Errors.{no_memory};
 ghost use Rattle.plan_types.specs.FrameFaults.{count_of, frame_fault, head_of, height_of, misfit, misfit_from, other_length, repeated_name, shown, vals_of, IsFault};
-ghost use Rattle.plan_types.specs.Schemas.{columns as schema_columns, with_column};
+ghost use Rattle.plan_types.specs.Schemas.{columns as schema_columns, type_at, with_column};
 ghost use Rattle.plan_types.specs.Types.{ty};
 
 use crate::column::Column;
@@ -47,7 +47,8 @@ pub struct Frame {
 }
 
 impl Frame {
-    ghost use Rattle.std.specs.Prelude.{◌<◌, ℕ, length, map, slice_get, Some};
+    ghost use Rattle.std.specs.Prelude.{◌<◌, ℕ, length, map, slice_get, IfSome, Some};
+    ghost use Rattle.std.specs.Option.{option_map};
     ghost use Rattle.plan_types.specs.FrameViews.{columns_of, frame_of};
     ghost use Rattle.plan_types.specs.Frames.{value_in, row_at, IsFrame};
 
@@ -115,6 +116,30 @@ impl Frame {
     {
         &self.columns[index]
     }
+
+    /// The column of that name, in time linear in the number of columns.
+    pub fn column_named(&self, name: &PlSmallStr) -> Option<&Column>
+        ensures dtype { option_map (λ column. ty column.now.dtype) result ≡ type_at (frame_of self.now).schema name.now }
+        ensures name { IfSome result (λ column. column.now.name ≡ name.now) }
+        ensures height { IfSome result (λ column. count_of column.now ≡ length (frame_of self.now).rows) }
+        ensures values { IfSome result (λ column. (number : ℕ) → number < count_of column.now
+            → slice_get (vals_of column.now.values) number ≡ Some (value_in (frame_of self.now).schema name.now (row_at (frame_of self.now) number))) }
+    {
+        for column in self.columns.as_slice() {
+            if column.name == *name {
+                return Some(column);
+            }
+        }
+        None
+    }
+
+    /// The columns, moved out.
+    pub fn into_columns(self) -> Vec<Column>
+        ensures columns { result.items ≡ columns_of self }
+        ensures sound { frame_fault result.items ≡ None }
+    {
+        self.columns
+    }
 }
 
 // How many values the first column has.
@@ -122,7 +147,7 @@ fn height(columns: &[Column]) -> usize
     ensures { result ≡ height_of columns.now }
 {
     match columns.first() {
-        Some(column) => column.values.items.len(),
+        Some(column) => column.values.len(),
         None => 0,
     }
 }
@@ -175,7 +200,7 @@ fn check_lengths(alloc: Global, columns: &[Column]) -> Result<(), FrameError>
 {
     let wanted = height(columns);
     for column in columns {
-        let found = column.values.items.len();
+        let found = column.values.len();
         if found != wanted {
             let name = column.name.try_clone(alloc).map_err(out_of_memory)?;
             return Err(FrameError::Length {
@@ -204,9 +229,8 @@ fn check_column(alloc: Global, column: &Column) -> Result<(), FrameError>
     ensures ok { OnOk result (misfit_from 0 column.now.name (ty column.now.dtype) (vals_of column.now.values) ≡ None) }
     ensures err { IfErr result (IsFault (misfit_from 0 column.now.name (ty column.now.dtype) (vals_of column.now.values))) }
 {
-    let values = column.values.items.as_slice();
-    for row in 0..values.len() {
-        if !values[row].fits(&column.dtype) {
+    for row in 0..column.values.len() {
+        if !column.values.value_at(row).fits(&column.dtype) {
             let name = column.name.try_clone(alloc).map_err(out_of_memory)?;
             return Err(FrameError::Misfit { name, row });
         }

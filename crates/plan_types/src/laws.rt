@@ -1,6 +1,7 @@
 //! Laws of the definitions. The functions do nothing: their clauses are the laws.
 
-ghost use Rattle.std.specs.Prelude.{◌≡◌, ◌≢◌, ◌⊎◌, ℤ, true, Some, Ok};
+ghost use Rattle.std.specs.Prelude.{◌≡◌, ◌≢◌, ◌⊎◌, ℤ, true, List, Some, Ok};
+ghost use Rattle.std.specs.List.{AllByRecursion};
 ghost use Rattle.plan_types.specs.Types.{Ty, Untyped, is_integer, is_known};
 ghost use Rattle.plan_types.specs.Casts.{Gives, Fails, can_cast, cast};
 ghost use Rattle.plan_types.specs.Columns.{HasDistinctNames};
@@ -9,6 +10,7 @@ ghost use Rattle.plan_types.specs.FrameViews.{frame_of};
 ghost use Rattle.plan_types.specs.Frames.{IsFrame};
 ghost use Rattle.plan_types.specs.Schemas.{columns};
 ghost use Rattle.plan_types.specs.Supertypes.{supertype};
+ghost use Rattle.plan_types.specs.TypeOrder.{is_below, folded_type};
 ghost use Rattle.plan_types.specs.Values.{Val, fits, in_range};
 ghost use Rattle.plan_types.specs.declared.dtype.CastOptions.{CastOptions};
 ghost use Rattle.plan_types.specs.declared.dtype.CastOptions.TheVariants.{Strict};
@@ -24,6 +26,25 @@ pub fn supertype_laws()
         → (in_range a number ≡ true) ⊎ (in_range b number ≡ true) → in_range c number ≡ true }
     ensures casts { (a b c : Ty) → is_known a ≡ true → is_known b ≡ true → supertype a b ≡ Some c
         → (can_cast a c ≡ true) × (can_cast b c ≡ true) }
+{}
+
+/// Types are in an order, in which each of two types is below their common type, and a type above another is the common
+/// type of both. A type of integers has each number of those below it, and there is a cast from each type to the types of
+/// columns above it. Of types that are folded each is below what was found. Where they are types of columns so is this,
+/// and there is a cast from each to it.
+pub fn type_order_laws()
+    ensures itself { (a : Ty) → is_below a a ≡ true }
+    ensures transitive { (a b c : Ty) → is_below a b ≡ true → is_below b c ≡ true → is_below a c ≡ true }
+    ensures antisymmetric { (a b : Ty) → is_below a b ≡ true → is_below b a ≡ true → a ≡ b }
+    ensures above { (a b c : Ty) → supertype a b ≡ Some c → (is_below a c ≡ true) × (is_below b c ≡ true) }
+    ensures common { (a b : Ty) → is_below a b ≡ true → supertype a b ≡ Some b }
+    ensures holds { (a b : Ty) (number : ℤ) → is_integer b ≡ true → is_below a b ≡ true → in_range a number ≡ true → in_range b number ≡ true }
+    ensures casts { (a b : Ty) → is_known b ≡ true → is_below a b ≡ true → can_cast a b ≡ true }
+    ensures folds { (types : List Ty) (c : Ty) → folded_type types ≡ Some c → AllByRecursion (λ type. is_below type c ≡ true) types }
+    ensures folds_known { (types : List Ty) (c : Ty) → AllByRecursion (λ type. is_known type ≡ true) types → folded_type types ≡ Some c
+        → is_known c ≡ true }
+    ensures folds_cast { (types : List Ty) (c : Ty) → AllByRecursion (λ type. is_known type ≡ true) types → folded_type types ≡ Some c
+        → AllByRecursion (λ type. can_cast type c ≡ true) types }
 {}
 
 /// The common type of two operands doesn't depend on the order and is a type of columns. Of operands of one

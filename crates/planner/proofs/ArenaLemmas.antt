@@ -4,10 +4,9 @@ use Rattle.plan_types.specs.Schemas.{Columns, columns}
 use Rattle.plan_types.specs.declared.schema.Schema.{Schema}
 use Rattle.plan_dsl.specs.Ops.{Expression}
 use Rattle.plan_dsl.specs.Plans.{Named, Plan, PlanKind, PlanOp, FilterKind, ScanKind, filter_op, scan_op}
-use Rattle.plan_dsl.specs.declared.function.FunctionIR.TheVariants.{Rechunk}
 use Rattle.plan_dsl.specs.Trees.{Trees, node, no_more, more}
 use Rattle.plan_arena.specs.Denotation.{DenoteAll, Denotes, DenotesTree}
-use Rattle.plan_arena.specs.Items.{DenoteNamed, DenotesKind, DenotesOp, HoldsExpression, HoldsPlan, named_node, plan_layer}
+use Rattle.plan_arena.specs.Items.{DenoteLists, DenoteNamed, DenotesKind, DenotesOp, HoldsExpression, HoldsPlan, named_node, plan_layer}
 use Rattle.plan_arena.specs.Layers.{layer, op_of}
 use Rattle.plan_arena.specs.declared.aexpr.AExpr.{AExpr}
 use Rattle.plan_arena.specs.declared.arena.Node.{Node}
@@ -102,7 +101,10 @@ module _ (expressions : List AExpr) (plans : List IR) where
   no_filter (Slice input offset len) p other d = let e = d.1 in cc
   no_filter (Cache input id cache_hits) p other d = let e = d.1 in cc
   no_filter (Sink input payload) p other d = let e = d.1 in cc
-  no_filter (MapFunction input Rechunk) p other d = let e = d.1 in cc
+  no_filter (MapFunction input function schema) p other d =
+      let e = d.1 in
+      let given : d.0 ≡ (p ∷ []) ∷ [] = cc in
+      subst (DenoteLists expressions []) given d.2
   no_filter Invalid p other d = d
 
   no_scan : (item : IR) (table : Option ℕ) (own : Columns) → ((table : Option ℕ) (schema : Schema) → item ≢ DataFrameScan table schema) → DenotesKind expressions (op_of (plan_layer item)).kind (ScanKind table own) → ⊥
@@ -117,7 +119,7 @@ module _ (expressions : List AExpr) (plans : List IR) where
   no_scan (Slice input offset len) t own other d = let e = d.1 in cc
   no_scan (Cache input id cache_hits) t own other d = let e = d.1 in cc
   no_scan (Sink input payload) t own other d = let e = d.1 in cc
-  no_scan (MapFunction input Rechunk) t own other d = let e = d.1 in cc
+  no_scan (MapFunction input function schema) t own other d = let e = d.1 in cc
   no_scan Invalid t own other d = d
 
   -- the kind that an item is, as its node denotes it

@@ -16,7 +16,7 @@ ghost use Rattle.plan_dsl.specs.declared.operator.Operator.TheVariants.{Plus};
 ghost use Rattle.plan_dsl.specs.declared.distinct_options.ColumnNames.{ColumnNames};
 ghost use Rattle.plan_dsl.specs.declared.distinct_options.UniqueKeepStrategy.TheVariants.{Any, Last};
 ghost use Rattle.plan_dsl.specs.declared.distinct_options.DistinctOptionsIR.{DistinctOptionsIR};
-ghost use Rattle.plan_dsl.specs.declared.function.FunctionIR.TheVariants.{Rechunk};
+ghost use Rattle.plan_dsl.specs.declared.function.FunctionIR.TheVariants.{Rechunk, RowIndex};
 ghost use Rattle.plan_dsl.specs.declared.plan.ProjectionOptions.{ProjectionOptions};
 ghost use Rattle.plan_dsl.specs.declared.plan.SinkType.TheVariants.{Memory};
 ghost use Rattle.plan_dsl.specs.declared.sort_options.SortMultipleOptions.{SortMultipleOptions};
@@ -24,7 +24,8 @@ ghost use Rattle.plan_dsl.specs.declared.window.WindowType.TheVariants.{GroupsTo
 ghost use Rattle.plan_dsl.specs.Trees.{node, no_more, more};
 ghost use Rattle.plan_dsl.specs.Names.{FromField, FromNothing, alias_label, column_label, literal_label};
 ghost use Rattle.plan_dsl.specs.Ops.{ColumnOp, LiteralOp, BinaryOp, CastOp, LenOp, SliceOp, AliasOp, ExplodeOp, GatherOp, FilterOp, SortOp, SortByOp, WindowOp, Expression};
-ghost use Rattle.plan_dsl.specs.Plans.{FilterKind, GroupByKind, HStackKind, Named, OrderOption, ProjectionOption, RefusedKind, ScanKind, SelectKind, named, scan_op, select_op, hstack_op, group_by_op, simple_projection_op, filter_op, GroupByWork, HStackWork, OverKind, CachePass, DistinctWork, HitsOption, PassWork, RechunkPass, SelectWork, over_op, SinkPass, SliceWork, SortWork, DropKind, SimpleProjectionKind, PlanKind, expressions_of};
+ghost use Rattle.plan_dsl.specs.TableFunctions.{RowIndexFunction};
+ghost use Rattle.plan_dsl.specs.Plans.{FunctionWork, FilterKind, GroupByKind, HStackKind, Named, OrderOption, ProjectionOption, RefusedKind, ScanKind, SelectKind, named, scan_op, select_op, hstack_op, group_by_op, simple_projection_op, filter_op, GroupByWork, HStackWork, OverKind, CachePass, DistinctWork, HitsOption, PassWork, RechunkPass, SelectWork, over_op, SinkPass, SliceWork, SortWork, DropKind, SimpleProjectionKind, PlanKind, expressions_of};
 ghost use Rattle.plan_dsl.specs.Samples.{Gives, GivesOfTwo, int8, int32, a, alias, b, cast_as, column, count, keep, literal, over, over_by, slice, sort_by, sum, typed_literal, way, schema_ab};
 ghost use Rattle.plan_arena.specs.declared.aexpr.AExpr.{AExpr};
 ghost use Rattle.plan_arena.specs.declared.aexpr.AExpr.TheVariants.{Column, Literal, BinaryExpr, Cast, Len, Slice, Alias, Explode, Gather, Filter as FilterBy, Sort, SortBy, Window};
@@ -88,12 +89,14 @@ pub fn items_over_an_input()
     ensures distinct_rows { (options : DistinctOptionsIR) → options.subset ≡ None → options.keep_strategy ≡ Any → plan_layer (Distinct (node_at 5) options) ≡ layer (over_op (DistinctWork Any None) [] None) (5 ∷ []) }
     ensures others { Gives plan_layer ((SliceItem (node_at 5) (neg_ℤ (pos 2)) 3, layer (over_op (SliceWork (neg_ℤ (pos 2)) 3) [] None) (5 ∷ []))
         ∷ (Cache (node_at 5) 7 2, layer (over_op (PassWork (CachePass 7)) [] None) (5 ∷ [])) ∷ (Sink (node_at 5) Memory, layer (over_op (PassWork SinkPass) [] None) (5 ∷ []))
-        ∷ (MapFunction (node_at 5) Rechunk, layer (over_op (PassWork RechunkPass) [] None) (5 ∷ [])) ∷ []) }
-    ensures names { (input : Node) (by : ExprIRs) (flags : SortMultipleOptions) (options : DistinctOptionsIR) → Gives node_name
+        ∷ []) }
+    ensures functions { (schema : Schema) → columns schema ≡ schema_ab → Gives plan_layer ((MapFunction (node_at 5) Rechunk schema, layer (over_op (PassWork RechunkPass) [] (Some schema_ab)) (5 ∷ []))
+        ∷ (MapFunction (node_at 5) (RowIndex (codes "i") (Some 7)) schema, layer (over_op (FunctionWork (RowIndexFunction (codes "i") (Some 7))) [] (Some schema_ab)) (5 ∷ [])) ∷ []) }
+    ensures names { (input : Node) (schema : Schema) (by : ExprIRs) (flags : SortMultipleOptions) (options : DistinctOptionsIR) → Gives node_name
         ((SortItem input by flags, codes "sort") ∷ (Distinct input options, codes "distinct") ∷ (SliceItem input (pos 0) 0, codes "slice")
-        ∷ (Cache input 7 2, codes "cache") ∷ (Sink input Memory, codes "sink (memory)") ∷ (MapFunction input Rechunk, codes "map_function") ∷ []) }
-    ensures options { (input : Node) (by : ExprIRs) (flags : SortMultipleOptions) → Gives option_of
-        ((SortItem input by flags, []) ∷ (SliceItem input (pos 0) 0, []) ∷ (Cache input 7 2, HitsOption 2 ∷ []) ∷ (Sink input Memory, []) ∷ (MapFunction input Rechunk, []) ∷ []) }
+        ∷ (Cache input 7 2, codes "cache") ∷ (Sink input Memory, codes "sink (memory)") ∷ (MapFunction input Rechunk schema, codes "map_function") ∷ []) }
+    ensures options { (input : Node) (schema : Schema) (by : ExprIRs) (flags : SortMultipleOptions) → Gives option_of
+        ((SortItem input by flags, []) ∷ (SliceItem input (pos 0) 0, []) ∷ (Cache input 7 2, HitsOption 2 ∷ []) ∷ (Sink input Memory, []) ∷ (MapFunction input Rechunk schema, []) ∷ []) }
     ensures expressions { Gives nodes_of ((GroupByKind (named_at "a" 3 ∷ named_at "a" 1 ∷ []) (named_at "a" 4 ∷ []), named_at "a" 3 ∷ named_at "a" 1 ∷ named_at "a" 4 ∷ [])
         ∷ (SelectKind (named_at "a" 3 ∷ []), named_at "a" 3 ∷ []) ∷ (OverKind (SliceWork (pos 0) 1) [], []) ∷ (ScanKind None [], []) ∷ []) }
     ensures first { Gives (λ (kind : PlanKind (Named ℕ)). first_of (expressions_of kind)) ((GroupByKind (named_at "a" 3 ∷ named_at "a" 1 ∷ []) (named_at "a" 4 ∷ []), named_at "a" 3 ∷ named_at "a" 1 ∷ [])

@@ -7,7 +7,8 @@ ghost use Rattle.plan_types.specs.Outcomes.{Done, Fault, Stuck};
 ghost use Rattle.plan_types.specs.Frames.{Frame, empty_frame};
 ghost use Rattle.plan_types.specs.declared.error.ErrorKind.TheVariants.{ColumnNotFound, SchemaMismatch, InvalidOperation, ComputeError};
 ghost use Rattle.plan_dsl.specs.declared.distinct_options.UniqueKeepStrategy.TheVariants.{First, Last, None as Lone, Any};
-ghost use Rattle.plan_dsl.specs.Plans.{Work, SliceWork, SortWork, DistinctWork, PassWork, CachePass, SinkPass, RechunkPass, OverKind, named};
+ghost use Rattle.plan_dsl.specs.Plans.{Work, SliceWork, SortWork, DistinctWork, PassWork, FunctionWork, CallWork, CachePass, SinkPass, RechunkPass, SamePass, OverKind, named};
+ghost use Rattle.plan_dsl.specs.TableFunctions.{RenameFunction, UnnestCall};
 ghost use Rattle.plan_dsl.specs.Sources.{Source, written};
 ghost use Rattle.plan_dsl.specs.PlanRules.{type_kinds, all_type_kinds, subset_kinds, work_kinds, own_kinds, schema_by, keeps_schema};
 ghost use Rattle.plan_dsl.specs.PlanKernels.{Evaluated, gives_nothing, work_frame, over_frame, with_rows, subset_keys};
@@ -170,18 +171,19 @@ pub fn names_of_distinct_rows()
 /// Rows that are passed on as they are, whatever passes them.
 pub fn rows_that_are_passed()
     ensures rows { let two : Frame = frame_with schema_ab ((number 1 ∷ number 10 ∷ []) ∷ (null ∷ number 20 ∷ []) ∷ []) in
-        GivesAll (λ passing. work_frame (PassWork passing) [] two) (Done two) (CachePass 0 ∷ CachePass 7 ∷ SinkPass ∷ RechunkPass ∷ [])
-        × (work_frame (PassWork SinkPass) [] (frame_with schema_ab []) ≡ Done (frame_with schema_ab [])) × (work_frame (PassWork RechunkPass) [] empty_frame ≡ Done empty_frame)
+        GivesAll (λ passing. work_frame (PassWork passing) [] two) (Done two) (CachePass 0 ∷ CachePass 7 ∷ SinkPass ∷ RechunkPass ∷ SamePass ∷ [])
+        × (work_frame (PassWork SinkPass) [] (frame_with schema_ab []) ≡ Done (frame_with schema_ab [])) × (work_frame (PassWork RechunkPass) [] empty_frame ≡ Done empty_frame) × (work_frame (PassWork SamePass) [] empty_frame ≡ Done empty_frame)
         × (work_frame (PassWork SinkPass) ([] ∷ []) two ≡ Stuck) }
     ensures kinds { Gives (work_kinds (PassWork (CachePass 1)) schema_ab) (([], []) ∷ ([] ∷ [], SchemaMismatch ∷ []) ∷ []) × (type_kinds (PassWork SinkPass) (many_values int8) ≡ []) }
-    ensures schemas { GivesAll (λ passing. schema_by [] (OverKind (PassWork passing) []) (Some schema_ab ∷ [])) (Some schema_ab) (CachePass 3 ∷ SinkPass ∷ RechunkPass ∷ []) }
+    ensures schemas { GivesAll (λ passing. schema_by [] (OverKind (PassWork passing) []) (Some schema_ab ∷ [])) (Some schema_ab) (CachePass 3 ∷ SinkPass ∷ RechunkPass ∷ SamePass ∷ []) }
     ensures resolved { Gives (expanded_kind [] (schema_ab ∷ [])) (
-        (OverKind (PassWork (CachePass 3)) [], Ok (OverKind (PassWork (CachePass 3)) [])) ∷ (OverKind (PassWork SinkPass) [], Ok (OverKind (PassWork SinkPass) [])) ∷ []) }
-    ensures over { GivesOfTwo (λ work input. over_frame (by_meaning []) work [] input) ((PassWork SinkPass, Fault, Fault) ∷ (PassWork RechunkPass, Stuck, Stuck) ∷ []) }
+        (OverKind (PassWork (CachePass 3)) [], Ok (OverKind (PassWork (CachePass 3)) [])) ∷ (OverKind (PassWork SinkPass) [], Ok (OverKind (PassWork SinkPass) [])) ∷ (OverKind (PassWork SamePass) [], Ok (OverKind (PassWork SamePass) [])) ∷ []) }
+    ensures over { GivesOfTwo (λ work input. over_frame (by_meaning []) work [] input) ((PassWork SinkPass, Fault, Fault) ∷ (PassWork RechunkPass, Stuck, Stuck) ∷ (PassWork SamePass, Fault, Fault) ∷ []) }
 {}
 
-/// Each keeps its input's schema, and gives something whatever its lists.
+/// Each but a function keeps its input's schema, so that no lowered node of it records one, and gives something whatever its lists.
 pub fn works_of_rows()
-    ensures kept { GivesAll keeps_schema true (SliceWork (pos 0) 1 ∷ SortWork (true ∷ []) [] ∷ DistinctWork Any None ∷ DistinctWork Lone (Some []) ∷ PassWork (CachePass 0) ∷ PassWork SinkPass ∷ PassWork RechunkPass ∷ []) }
+    ensures kept { GivesAll keeps_schema true (SliceWork (pos 0) 1 ∷ SortWork (true ∷ []) [] ∷ DistinctWork Any None ∷ DistinctWork Lone (Some []) ∷ PassWork (CachePass 0) ∷ PassWork SinkPass ∷ PassWork SamePass ∷ [])
+        × Gives keeps_schema ((PassWork RechunkPass, false) ∷ (FunctionWork (RenameFunction [] [] false), false) ∷ (CallWork UnnestCall, false) ∷ []) }
     ensures something { GivesAll (λ (work : Work). gives_nothing work []) false (SliceWork (pos 0) 0 ∷ SortWork [] [] ∷ DistinctWork First (Some []) ∷ PassWork SinkPass ∷ []) }
 {}

@@ -9,13 +9,13 @@ ghost use Rattle.plan_lower.specs.Lowering.{Records};
 ghost use Rattle.plan_lower.specs.Steps.{LowersPlainly};
 ghost use Rattle.plan_lower.specs.Works.{IsPlain, IsPlainRefusal};
 
-use crate::conversion::drops::has_each;
 use crate::conversion::nodes::recorded_schema;
 use crate::conversion::plain_nodes::add_plain;
 use crate::conversion::step::LoweredNode;
 use plan_arena::arena::Arena;
 use plan_arena::ir::IR;
 use plan_dsl::distinct_options::{ColumnNames, DistinctOptionsDSL, DistinctOptionsIR};
+use plan_dsl::function_schema::has_each;
 use plan_dsl::selector::Selectors;
 use plan_expand::selectors::expand_selectors;
 use plan_types::error::{ErrorKind, PlanError};

@@ -10,6 +10,7 @@ ghost use Rattle.plan_expand.specs.Refusals.{IsUnexpanded};
 use crate::conversion::put_copy::put_copy;
 use indexmap::IndexSet;
 use plan_dsl::function::DropFunction;
+use plan_dsl::function_schema::has_each;
 use plan_expand::selectors::selected_names;
 use plan_types::dtype::DataType;
 use plan_types::error::{ErrorKind, PlanError};
@@ -40,18 +41,6 @@ fn lacks_some(strict: bool, schema: &Schema, names: &IndexSet<PlSmallStr>) -> bo
     ensures { result ≡ (strict && not (have_names (columns schema.now) names.now.keys)) }
 {
     strict && !has_each(schema, names.as_slice())
-}
-
-/// Whether the schema has a column of each of the names.
-pub(crate) fn has_each(schema: &Schema, names: &[PlSmallStr]) -> bool
-    ensures { result ≡ have_names (columns schema.now) names.now }
-{
-    for name in names {
-        if !schema.contains(name) {
-            return false;
-        }
-    }
-    true
 }
 
 // A copy of the schema without the columns of these names.

@@ -68,7 +68,7 @@ pub(crate) fn lower_step(
                 udfs,
             )
         }
-        Step::Function(function) => lower_function(input, function, lp_arena),
+        Step::Function(function) => lower_function(input, function, expr_arena, lp_arena, udfs),
         Step::Distinct(options) => lower_distinct(input, options, lp_arena),
         Step::Sort(by, options) => lower_sort(input, by, options, expr_arena, lp_arena, udfs),
         Step::Plain(plain) => lower_plain(input, plain, lp_arena),
@@ -118,8 +118,8 @@ pub fn add_filters(
     Ok(node)
 }
 
-// Adds a select over a lowered input.
-fn lower_select(
+/// Adds a select over a lowered input.
+pub(crate) fn lower_select(
     expr: Exprs,
     input: LoweredNode,
     options: ProjectionOptions,

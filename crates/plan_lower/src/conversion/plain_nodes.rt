@@ -1,6 +1,7 @@
 //! Plan nodes without expressions, which have the schema of their input.
-ghost use Rattle.std.specs.Prelude.{◌≡◌, List, [], ◌∷◌, slice_get, map, None, Some, IfOk, IfErr};
+ghost use Rattle.std.specs.Prelude.{◌≡◌, List, [], ◌∷◌, slice_get, map, None, Some, true, IfOk, IfErr};
 ghost use Rattle.plan_types.specs.Errors.{no_memory};
+ghost use Rattle.plan_dsl.specs.PlanRules.{keeps_schema};
 ghost use Rattle.plan_dsl.specs.Plans.{Work, over_op};
 ghost use Rattle.plan_dsl.specs.Sources.{Source};
 ghost use Rattle.plan_arena.specs.Items.{plan_layer};
@@ -13,7 +14,6 @@ ghost use Rattle.plan_lower.specs.Works.{IsPlain, IsPlainAt};
 use crate::conversion::step::{LoweredNode, Plain};
 use plan_arena::arena::{Arena, Node};
 use plan_arena::ir::IR;
-use plan_dsl::function::FunctionIR;
 use plan_types::error::PlanError;
 
 // Nobody knows how often a cache is to be read.
@@ -46,10 +46,6 @@ fn plain_item(plain: Plain, input: Node) -> IR
             cache_hits: UNKNOWN_HITS,
         },
         Plain::Sink(payload) => IR::Sink { input, payload },
-        Plain::Rechunk => IR::MapFunction {
-            input,
-            function: FunctionIR::Rechunk,
-        },
     }
 }
 
@@ -60,7 +56,7 @@ pub(crate) fn add_plain(
     lp_arena: &mut Arena<IR>,
 ) -> Result<LoweredNode, PlanError>
     requires { Records lp_arena.old input.schema_node.0 }
-    ensures plain { IfOk result (λ lowered. (work own : Work) (lists : List (List Source)) → IsPlain (columns_at lp_arena.old input.schema_node.0) work lists own → plan_layer item ≡ layer (over_op own [] None) (input.node.0 ∷ []) →
+    ensures plain { IfOk result (λ lowered. (work own : Work) (lists : List (List Source)) → IsPlain (columns_at lp_arena.old input.schema_node.0) work lists own → keeps_schema own ≡ true → plan_layer item ≡ layer (over_op own [] None) (input.node.0 ∷ []) →
         IsPlainAt (columns_at lp_arena.old input.schema_node.0) lp_arena.new lowered.node.0 input.node.0 work lists (columns_at lp_arena.new lowered.schema_node.0)) }
     ensures ok { IfOk result (λ lowered. slice_get (map plan_layer lp_arena.new) lowered.node.0 ≡ Some (plan_layer item)) }
     ensures schema { IfOk result (λ lowered. columns_at lp_arena.new lowered.schema_node.0 ≡ columns_at lp_arena.old input.schema_node.0) }

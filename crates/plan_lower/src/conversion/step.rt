@@ -36,5 +36,4 @@ pub(crate) enum Plain {
     /// The frame is kept under the number.
     Cache(usize),
     Sink(SinkType),
-    Rechunk,
 }

@@ -3,11 +3,13 @@
 ghost use Rattle.std.specs.Prelude.{◌≡◌, List, [], ◌∷◌, map, pos, codes, true, false, Some, None, Ok, Err};
 ghost use Rattle.plan_types.specs.Errors.{no_memory, at_top};
 ghost use Rattle.plan_types.specs.declared.error.ErrorKind.TheVariants.{ColumnNotFound, ComputeError, Duplicate};
-ghost use Rattle.plan_dsl.specs.Plans.{CachePass, DistinctWork, DropWork, FilterWork, GroupByWork, HStackWork, HitsOption, OrderOption, PassWork, RechunkPass, SelectWork, SimpleProjectionWork, SinkPass, SliceWork, Work, named, over_op};
+ghost use Rattle.plan_dsl.specs.Plans.{CachePass, CallWork, DistinctWork, DropWork, FilterWork, FunctionWork, GroupByWork, HStackWork, HitsOption, OrderOption, PassWork, ProjectionOption, RechunkPass, SamePass, SelectWork, SimpleProjectionWork, SinkPass, SliceWork, Work, named, over_op};
 ghost use Rattle.plan_dsl.specs.declared.distinct_options.UniqueKeepStrategy.TheVariants.{First, Last};
 ghost use Rattle.plan_dsl.specs.declared.sort_options.SortMultipleOptions.{SortMultipleOptions};
 ghost use Rattle.plan_dsl.specs.Samples.{all, nth, root};
 ghost use Rattle.plan_dsl.specs.Sources.{written};
+ghost use Rattle.plan_dsl.specs.TableFunctions.{RowIndexFunction, StatsCall};
+ghost use Rattle.plan_dsl.specs.declared.function.StatsFunction.TheVariants.{Sum};
 ghost use Rattle.plan_arena.specs.Layers.{layer};
 ghost use Rattle.plan_arena.specs.declared.aexpr.AExpr.TheVariants.{Len};
 ghost use Rattle.plan_arena.specs.declared.ir.IR.{IR};
@@ -44,9 +46,9 @@ pub fn works_that_are_lowered()
 
 /// What steps without expressions do, with their lists and options.
 pub fn plain_steps()
-    ensures works { map step_work plain ≡ SliceWork (pos 1) 2 ∷ PassWork (CachePass 7) ∷ PassWork SinkPass ∷ PassWork RechunkPass ∷ [] }
-    ensures lists { map step_lists plain ≡ [] ∷ [] ∷ [] ∷ [] ∷ [] }
-    ensures options { map step_option plain ≡ [] ∷ (HitsOption 4294967295 ∷ []) ∷ [] ∷ [] ∷ [] }
+    ensures works { map step_work plain ≡ SliceWork (pos 1) 2 ∷ PassWork (CachePass 7) ∷ PassWork SinkPass ∷ PassWork RechunkPass ∷ CallWork (StatsCall Sum) ∷ [] }
+    ensures lists { map step_lists plain ≡ [] ∷ [] ∷ [] ∷ [] ∷ [] ∷ [] }
+    ensures options { map step_option plain ≡ [] ∷ (HitsOption 4294967295 ∷ []) ∷ [] ∷ [] ∷ (ProjectionOption (record { duplicate_check = false }) ∷ []) ∷ [] }
 {}
 
 /// Their nodes, which have the schema of their input and record none.
@@ -59,13 +61,14 @@ pub fn plain_nodes()
     ensures refused { IsPlainRefusal two_columns (SliceWork (pos 1) 2) [] no_memory }
 {}
 
-/// Works that are resolved to one without expressions, which keeps the schema that it stands over.
+/// Works that are resolved to one without expressions, which has a node.
 pub fn plain_works()
     ensures distinct { IsPlain two_columns (DistinctWork First None) ((root (written b) ∷ []) ∷ []) (DistinctWork First (Some (codes "b" ∷ []))) }
     ensures other_strategy { ¬ (IsPlain two_columns (DistinctWork First None) [] (DistinctWork Last None)) }
     ensures absent { ¬ (IsPlain (one_column int8) (DistinctWork First None) ((root (written b) ∷ []) ∷ []) (DistinctWork First (Some (codes "b" ∷ [])))) }
     ensures with_an_expression { ¬ (IsPlain two_columns FilterWork ((written a ∷ []) ∷ []) FilterWork) }
-    ensures fewer_columns { ¬ (IsPlain two_columns (DropWork true) ((root (written b) ∷ []) ∷ []) (SimpleProjectionWork (one_column int8))) }
+    ensures function { IsPlain two_columns (FunctionWork (RowIndexFunction (codes "i") None)) [] (FunctionWork (RowIndexFunction (codes "i") None)) }
+    ensures nothing { ¬ (IsPlain two_columns (PassWork SamePass) [] (PassWork SamePass)) }
 {}
 
 /// What a sort's expressions are expanded to, with flags for the keys.

@@ -1,11 +1,12 @@
 //! Worked examples on common types of types, and of operands, of which a number without a type gets one first.
 
-ghost use Rattle.std.specs.Prelude.{◌≡◌, ◌||◌, List, [], ◌∷◌, pos, map, false, is_some, Option, Some, None, Ok, Err};
+ghost use Rattle.std.specs.Prelude.{◌≡◌, ◌||◌, List, [], ◌∷◌, ◌++◌, pos, map, true, false, is_some, Option, Some, None, Ok, Err};
 ghost use Rattle.std.specs.List.{filter, list_any};
 ghost use Rattle.plan_types.specs.Types.{Ty, NullType, Truth, TextType, DateType, TimeType, DatetimeType, DurationType, ListType, Untyped};
 ghost use Rattle.plan_types.specs.Supertypes.{supertype, upcast};
+ghost use Rattle.plan_types.specs.TypeOrder.{is_below, folded_type};
 ghost use Rattle.plan_types.specs.CommonTypes.{literal_type, type_alone, own_type, type_beside, common_type};
-ghost use Rattle.plan_types.specs.Samples.{Maps, MapsPairs, coarser_units, distinct_types, int16, int32, int64, int8, integers, minus, number, other_types, struct_a, struct_ab, struct_none, struct_of, times, types, uint16, uint32, uint64, uint8, units};
+ghost use Rattle.plan_types.specs.Samples.{Maps, MapsPairs, bare_types, coarser_units, distinct_types, int16, int32, int64, int8, integers, minus, number, other_types, signed_integers, struct_a, struct_ab, struct_none, struct_of, times, types, uint16, uint32, uint64, uint8, units, unsigned_integers};
 ghost use Rattle.plan_types.specs.declared.error.ErrorKind.TheVariants.{SchemaMismatch, InvalidOperation};
 ghost use Rattle.plan_types.specs.declared.dtype.TimeUnit.{TimeUnit};
 ghost use Rattle.plan_types.specs.declared.dtype.TimeUnit.TheVariants.{Nanoseconds, Microseconds, Milliseconds};
@@ -63,6 +64,50 @@ pub fn common_types_of_lists_and_structs()
     ensures repeated_names { let twice : Ty → Ty → Ty = λ first second. struct_of (("a", first) ∷ ("a", second) ∷ []) in supertype (twice int8 int8) (twice int16 int32) ≡ Some (twice int16 int32) }
     ensures others { list_any (λ type. list_any (λ other. is_some (supertype type other) || is_some (supertype other type)) (int8 ∷ TextType ∷ [])) (ListType int8 ∷ struct_none ∷ []) ≡ false }
     ensures lists_and_structs { MapsPairs supertype ((ListType int8, struct_none, None) ∷ (struct_none, ListType int8, None) ∷ (struct_none, ListType NullType, None) ∷ []) }
+{}
+
+/// Null is below all types, and nothing else is below null. Truth values are below integers and texts. An integer is below
+/// wider ones of its sign, an unsigned one below wider signed ones, and each below texts. Days are below moments.
+pub fn order_of_types_without_parts()
+    ensures null { filter (is_below NullType) distinct_types ≡ distinct_types }
+    ensures below_null { filter (λ type. is_below type NullType) distinct_types ≡ NullType ∷ [] }
+    ensures bare { Maps (λ type. filter (is_below type) (bare_types Nanoseconds))
+        ((Truth, integers ++ Truth ∷ TextType ∷ []) ∷ (int8, signed_integers ++ TextType ∷ []) ∷ (int16, int16 ∷ int32 ∷ int64 ∷ TextType ∷ []) ∷ (int32, int32 ∷ int64 ∷ TextType ∷ [])
+        ∷ (int64, int64 ∷ TextType ∷ []) ∷ (uint8, int16 ∷ int32 ∷ int64 ∷ unsigned_integers ++ TextType ∷ []) ∷ (uint16, int32 ∷ int64 ∷ uint16 ∷ uint32 ∷ uint64 ∷ TextType ∷ [])
+        ∷ (uint32, int64 ∷ uint32 ∷ uint64 ∷ TextType ∷ []) ∷ (uint64, uint64 ∷ TextType ∷ []) ∷ (TextType, TextType ∷ []) ∷ (DateType, DateType ∷ DatetimeType Nanoseconds ∷ [])
+        ∷ (TimeType, TimeType ∷ []) ∷ (DatetimeType Nanoseconds, DatetimeType Nanoseconds ∷ []) ∷ (DurationType Nanoseconds, DurationType Nanoseconds ∷ []) ∷ []) }
+    ensures untyped { filter (is_below (Untyped (pos 5))) distinct_types ≡ Untyped (pos 5) ∷ [] }
+    ensures below_untyped { filter (λ type. is_below type (Untyped (pos 5))) distinct_types ≡ NullType ∷ Untyped (pos 5) ∷ [] }
+{}
+
+/// Days are below moments in each unit, and moments and spans below those in coarser ones. Lists and structs are below
+/// those of which each part is above theirs, where structs have the same names in order.
+pub fn order_of_times_lists_and_structs()
+    ensures days { map (λ unit. is_below DateType (DatetimeType unit) ∷ is_below (DatetimeType unit) DateType ∷ []) units ≡ map (λ unit. true ∷ false ∷ []) units }
+    ensures moments { map (λ left. filter (λ right. is_below (DatetimeType left) (DatetimeType right)) units) units
+        ≡ units ∷ (Microseconds ∷ Milliseconds ∷ []) ∷ (Milliseconds ∷ []) ∷ [] }
+    ensures spans { map (λ left. filter (λ right. is_below (DurationType left) (DurationType right)) units) units
+        ≡ units ∷ (Microseconds ∷ Milliseconds ∷ []) ∷ (Milliseconds ∷ []) ∷ [] }
+    ensures lists { MapsPairs is_below ((ListType int8, ListType int16, true) ∷ (ListType int16, ListType int8, false) ∷ (ListType NullType, ListType DateType, true)
+        ∷ (ListType (ListType Truth), ListType (ListType TextType), true) ∷ (ListType int8, int8, false) ∷ (int8, ListType int8, false) ∷ (ListType int8, TextType, false)
+        ∷ (ListType int8, struct_none, false) ∷ []) }
+    ensures structs { MapsPairs is_below ((struct_ab int8 NullType, struct_ab int16 TextType, true) ∷ (struct_ab int8 TextType, struct_ab int16 int8, false)
+        ∷ (struct_ab int16 int8, struct_ab int8 int8, false) ∷ (struct_a int8, struct_ab int8 int8, false) ∷ (struct_ab int8 int8, struct_a int8, false) ∷ (struct_none, struct_none, true)
+        ∷ (struct_none, struct_a NullType, false) ∷ (struct_ab int8 int8, struct_of (("b", int8) ∷ ("a", int8) ∷ []), false) ∷ (struct_none, TextType, false) ∷ []) }
+    ensures names { Maps (λ name. is_below (struct_a int8) (struct_of ((name, int8) ∷ []))) (("a", true) ∷ ("b", false) ∷ ("A", false) ∷ []) }
+{}
+
+/// Types are folded to their common type, one after another, and no types to null. The order counts: two types without
+/// a common one are folded to texts where a text comes before the second.
+pub fn common_types_of_many()
+    ensures few { Maps folded_type (([], Some NullType) ∷ (Truth ∷ [], Some Truth) ∷ (Untyped (pos 5) ∷ [], Some (Untyped (pos 5))) ∷ (NullType ∷ NullType ∷ [], Some NullType)
+        ∷ (int8 ∷ Truth ∷ [], Some int8) ∷ (int8 ∷ uint8 ∷ [], Some int16) ∷ (DateType ∷ TimeType ∷ [], None) ∷ (int64 ∷ uint64 ∷ [], None) ∷ (Truth ∷ DateType ∷ [], None)
+        ∷ (Untyped (pos 5) ∷ int8 ∷ [], None) ∷ []) }
+    ensures more { Maps folded_type ((int8 ∷ TextType ∷ Truth ∷ [], Some TextType) ∷ (uint8 ∷ int8 ∷ uint16 ∷ [], Some int32) ∷ (NullType ∷ uint8 ∷ NullType ∷ Truth ∷ [], Some uint8)
+        ∷ (DateType ∷ DatetimeType Nanoseconds ∷ DatetimeType Milliseconds ∷ [], Some (DatetimeType Milliseconds)) ∷ (DateType ∷ DatetimeType Nanoseconds ∷ DurationType Nanoseconds ∷ [], None)
+        ∷ (ListType int8 ∷ NullType ∷ ListType uint8 ∷ [], Some (ListType int16)) ∷ (struct_ab int8 NullType ∷ struct_ab NullType TextType ∷ struct_ab uint16 Truth ∷ [], Some (struct_ab int32 TextType))
+        ∷ (struct_a int8 ∷ struct_ab int8 int8 ∷ [], None) ∷ []) }
+    ensures order { Maps folded_type ((int8 ∷ uint64 ∷ TextType ∷ [], None) ∷ (TextType ∷ int8 ∷ uint64 ∷ [], Some TextType) ∷ (int8 ∷ TextType ∷ uint64 ∷ [], Some TextType) ∷ []) }
 {}
 
 /// Alone a number is of the first of Int32, Int64 and UInt64 that has it, and so it is beside what is no integer.

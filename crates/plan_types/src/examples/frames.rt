@@ -1,6 +1,6 @@
 //! Worked examples on frames, columns as the code keeps them, refusals, outcomes and places.
 
-ghost use Rattle.std.specs.Prelude.{◌≡◌, ℕ, ◌+◌, [], ◌∷◌, pos, map, codes, true, false, Option, Some, None, Ok, Err};
+ghost use Rattle.std.specs.Prelude.{◌≡◌, ℕ, ◌+◌, [], ◌∷◌, map, codes, true, false, Option, Some, None, Ok, Err};
 ghost use Rattle.std.specs.Global.{Vec};
 ghost use Rattle.std.specs.List.{AllByRecursion};
 ghost use Rattle.plan_types.specs.Types.{Ty, NullType, Truth, TextType, DateType};
@@ -10,7 +10,7 @@ ghost use Rattle.plan_types.specs.Casts.{Gives, Fails};
 ghost use Rattle.plan_types.specs.Outcomes.{Outcome, Done, Fault, Stuck, Meets, then_do};
 ghost use Rattle.plan_types.specs.Errors.{at_top, no_memory, IsMemoryOr, IsRefusal};
 ghost use Rattle.plan_types.specs.Frames.{IsFrame, IsFrameOf, value_in, row_at, row_numbers, empty_frame};
-ghost use Rattle.plan_types.specs.FrameFaults.{IsFault, count_of, shown, height_of, heads_of, row_of, framed, repeated_name, other_length, misfit_from, else_fault, misfit, frame_fault};
+ghost use Rattle.plan_types.specs.FrameFaults.{IsFault, count_of, shown, vals_of, height_of, heads_of, row_of, framed, repeated_name, other_length, misfit_from, else_fault, misfit, frame_fault};
 ghost use Rattle.plan_types.specs.Places.{outermost_first};
 ghost use Rattle.plan_types.specs.Samples.{Maps, MapsPairs, column_with, frame_with, int32, int8, minus, negative, no, null, number, schema_a, schema_ab, text, times, uint8, yes};
 ghost use Rattle.plan_types.specs.declared.error.CastError.TheVariants.{Failing, NoMemory as NoRoom};
@@ -46,12 +46,12 @@ pub fn lists_of_rows_that_are_frames()
 pub fn columns_of_the_code()
     ensures values { map val_of (Null ∷ Truths true ∷ Truths false ∷ Int (minus 5) ∷ Text (codes "a") ∷ Text (codes "") ∷ []) ≡ null ∷ yes ∷ no ∷ negative 5 ∷ text "a" ∷ text "" ∷ [] }
     ensures heads { (some other : Values) → heads_of (column_with "a" Int8 some ∷ column_with "b" Boolean other ∷ []) ≡ schema_ab int8 Truth }
-    ensures shown { (two : Values) → two.items.items ≡ Int (pos 1) ∷ Null ∷ [] → shown (column_with "a" Int8 two) ≡ ((codes "a", int8), number 1 ∷ null ∷ []) }
-    ensures heights { (two : Values) → two.items.items ≡ Int (pos 1) ∷ Null ∷ [] → let a = column_with "a" Int8 two in count_of a ∷ map height_of ([] ∷ (a ∷ []) ∷ []) ≡ 2 ∷ 0 ∷ 2 ∷ [] }
-    ensures rows { (two one : Values) → two.items.items ≡ Int (pos 1) ∷ Truths true ∷ [] → one.items.items ≡ Int (pos 5) ∷ [] →
+    ensures shown { (two : Values) → vals_of two ≡ number 1 ∷ null ∷ [] → shown (column_with "a" Int8 two) ≡ ((codes "a", int8), number 1 ∷ null ∷ []) }
+    ensures heights { (two : Values) → vals_of two ≡ number 1 ∷ null ∷ [] → let a = column_with "a" Int8 two in count_of a ∷ map height_of ([] ∷ (a ∷ []) ∷ []) ≡ 2 ∷ 0 ∷ 2 ∷ [] }
+    ensures rows { (two one : Values) → vals_of two ≡ number 1 ∷ yes ∷ [] → vals_of one ≡ number 5 ∷ [] →
         map (row_of (column_with "a" Int8 two ∷ column_with "b" Int8 one ∷ [])) (0 ∷ 1 ∷ 2 ∷ []) ≡ (number 1 ∷ number 5 ∷ []) ∷ (yes ∷ null ∷ []) ∷ (null ∷ null ∷ []) ∷ [] }
     ensures no_frame { framed [] ≡ empty_frame }
-    ensures frame { (some other : Values) → some.items.items ≡ Int (pos 1) ∷ Null ∷ [] → other.items.items ≡ Truths true ∷ Truths false ∷ [] →
+    ensures frame { (some other : Values) → vals_of some ≡ number 1 ∷ null ∷ [] → vals_of other ≡ yes ∷ no ∷ [] →
         framed (column_with "a" Int8 some ∷ column_with "b" Boolean other ∷ []) ≡ frame_with (schema_ab int8 Truth) ((number 1 ∷ yes ∷ []) ∷ (null ∷ no ∷ []) ∷ []) }
 {}
 
@@ -61,9 +61,9 @@ pub fn first_faults()
         ∷ (0, number 128 ∷ number 129 ∷ [], Some (Misfit (codes "a") 0)) ∷ (3, number 1 ∷ null ∷ yes ∷ number 300 ∷ [], Some (Misfit (codes "a") 5)) ∷ []) }
     ensures two_faults { MapsPairs else_fault ((Some (Length (codes "a") 1 2), Some (Misfit (codes "a") 0), Some (Length (codes "a") 1 2))
         ∷ (None, Some (Misfit (codes "a") 0), Some (Misfit (codes "a") 0)) ∷ (None, None, None) ∷ []) }
-    ensures third_length { (two one : Values) → two.items.items ≡ Null ∷ Null ∷ [] → one.items.items ≡ Null ∷ [] →
+    ensures third_length { (two one : Values) → vals_of two ≡ null ∷ null ∷ [] → vals_of one ≡ null ∷ [] →
         other_length 2 (column_with "a" Int8 two ∷ column_with "b" Int8 two ∷ column_with "c" Int8 one ∷ []) ≡ Some (Length (codes "c") 1 2) }
-    ensures column_before_row { (some other : Values) → some.items.items ≡ Null ∷ Int (pos 300) ∷ [] → other.items.items ≡ Int (pos 300) ∷ Null ∷ [] →
+    ensures column_before_row { (some other : Values) → vals_of some ≡ null ∷ number 300 ∷ [] → vals_of other ≡ number 300 ∷ null ∷ [] →
         misfit (column_with "a" Int8 some ∷ column_with "b" Int8 other ∷ []) ≡ Some (Misfit (codes "a") 1) }
     ensures names { (some : Values) → MapsPairs (λ before names. repeated_name before (map (λ name. column_with name Int8 some) names))
         (([], "a" ∷ "b" ∷ "b" ∷ "a" ∷ [], Some (Duplicate (codes "b"))) ∷ ([], "a" ∷ "b" ∷ "a" ∷ [], Some (Duplicate (codes "a"))) ∷ (codes "a" ∷ [], "a" ∷ [], Some (Duplicate (codes "a"))) ∷ []) }
@@ -71,13 +71,13 @@ pub fn first_faults()
 
 /// What keeps columns from being a frame: a repeated name first, then a length, then a value.
 pub fn columns_that_are_no_frame()
-    ensures fitting { (two : Values) → two.items.items ≡ Int (pos 127) ∷ Null ∷ [] → map frame_fault ([] ∷ (column_with "a" UInt8 two ∷ column_with "b" Int8 two ∷ []) ∷ []) ≡ None ∷ None ∷ [] }
-    ensures name_before_length { (two one : Values) → two.items.items ≡ Int (pos 300) ∷ Null ∷ [] → one.items.items ≡ Null ∷ [] →
+    ensures fitting { (two : Values) → vals_of two ≡ number 127 ∷ null ∷ [] → map frame_fault ([] ∷ (column_with "a" UInt8 two ∷ column_with "b" Int8 two ∷ []) ∷ []) ≡ None ∷ None ∷ [] }
+    ensures name_before_length { (two one : Values) → vals_of two ≡ number 300 ∷ null ∷ [] → vals_of one ≡ null ∷ [] →
         map (λ name. frame_fault (column_with "a" Int8 two ∷ column_with name Int8 one ∷ [])) ("a" ∷ "b" ∷ []) ≡ Some (Duplicate (codes "a")) ∷ Some (Length (codes "b") 1 2) ∷ [] }
-    ensures length { (two one : Values) → two.items.items ≡ Int (pos 1) ∷ Null ∷ [] → one.items.items ≡ Null ∷ [] → frame_fault (column_with "a" Int8 two ∷ column_with "b" Int8 one ∷ []) ≡ Some (Length (codes "b") 1 2) }
-    ensures value { (two : Values) → two.items.items ≡ Int (pos 127) ∷ Int (pos 128) ∷ [] → frame_fault (column_with "a" UInt8 two ∷ column_with "b" Int8 two ∷ []) ≡ Some (Misfit (codes "b") 1) }
-    ensures days_and_times { (days times : Values) → days.items.items ≡ Int (minus 2147483648) ∷ Null ∷ Text (codes "5") ∷ [] → times.items.items ≡ Int (pos 86399999999999)
-        ∷ Int (pos 86400000000000) ∷ [] → map frame_fault ((column_with "a" Date days ∷ []) ∷ (column_with "a" Time times ∷ []) ∷ []) ≡ Some (Misfit (codes "a") 2) ∷ Some (Misfit (codes "a") 1) ∷ [] }
+    ensures length { (two one : Values) → vals_of two ≡ number 1 ∷ null ∷ [] → vals_of one ≡ null ∷ [] → frame_fault (column_with "a" Int8 two ∷ column_with "b" Int8 one ∷ []) ≡ Some (Length (codes "b") 1 2) }
+    ensures value { (two : Values) → vals_of two ≡ number 127 ∷ number 128 ∷ [] → frame_fault (column_with "a" UInt8 two ∷ column_with "b" Int8 two ∷ []) ≡ Some (Misfit (codes "b") 1) }
+    ensures days_and_times { (days times : Values) → vals_of days ≡ negative 2147483648 ∷ null ∷ text "5" ∷ [] → vals_of times ≡ number 86399999999999
+        ∷ number 86400000000000 ∷ [] → map frame_fault ((column_with "a" Date days ∷ []) ∷ (column_with "a" Time times ∷ []) ∷ []) ≡ Some (Misfit (codes "a") 2) ∷ Some (Misfit (codes "a") 1) ∷ [] }
 {}
 
 /// A refusal names the rule at the top, where the rule is broken, or is out of memory, which names no place.

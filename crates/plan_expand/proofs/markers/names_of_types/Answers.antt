@@ -2,7 +2,8 @@ use Rattle.std.proofs.Common.{◌<◌, ◌++◌, ◌∷◌, [], length, map, sym
 use Rattle.std.proofs.lemmas.Bool.{cond-true, cond-false}
 use Rattle.plan_types.specs.Schemas.{columns}
 use Rattle.plan_types.specs.Types.{ty}
-use Rattle.plan_expand.proofs.MarkerLemmas.{column_there, wanted_at}
+use Rattle.plan_dsl.proofs.FunctionSchemaLemmas.{column_there}
+use Rattle.plan_expand.proofs.MarkerLemmas.{wanted_at}
 use Rattle.plan_expand.proofs.markers.names_of_types.Goals as goal
 use Rattle.plan_expand.proofs.markers.names_of_types.Goals.{in-Some+then-is_wanted+in_ok-try_clone+in_ok-push, in-Some+else-is_wanted, in_default}
 

@@ -17,3 +17,7 @@ returns-in-Some-clause-row c = c.in-Some.ensures.row ∙ ap (λ kind. key_named 
 pub returns-in-Some-find-clause-row : goal.returns-in-Some-find-clause-row
 returns-in-Some-find-clause-row c =
     ap (option_map (λ (row : List ℕ × PlanKey). (row.0, keys.Plan row.1))) c.in-Some-find.ensures.row ∙ ap (λ kind. key_named kind c.args.word.now) (sym c.in-Plan.is)
+
+pub returns-in-None-find-clause-row : goal.returns-in-None-find-clause-row
+returns-in-None-find-clause-row c =
+    ap (option_map (λ (row : List ℕ × PlanKey). (row.0, keys.Plan row.1))) c.in-None-find.ensures.row ∙ ap (λ kind. key_named kind c.args.word.now) (sym c.in-Plan.is)

@@ -16,7 +16,7 @@ returns c =
     let own = DistinctWork options.keep_strategy (column_names options.subset) in
     let lowered = c.in_ok-lowered in
     record {
-      ok = lowered.ensures.plain work own lists (subst (λ (s : Columns). IsPlain s work lists own) c.recorded_schema-schema.ensures c.in_ok-options.ensures.plain) refl;
+      ok = lowered.ensures.plain work own lists (subst (λ (s : Columns). IsPlain s work lists own) c.recorded_schema-schema.ensures c.in_ok-options.ensures.plain) refl refl;
       err = tt;
       adds = subst (λ order. AddsStep c.args.lp_arena.now c.add_plain.new.lp_arena (OrderOption order ∷ []) (Ok lowered.lowered)) c.in_ok-options.ensures.order lowered.ensures.adds;
     }

@@ -1,8 +1,8 @@
 use Rattle.std.proofs.Common.{◌<◌, length, sym, arith}
 use Rattle.plan_types.specs.Schemas.{columns}
 use Rattle.plan_types.proofs.SchemaLemmas.{schema_has_distinct_names}
+use Rattle.plan_dsl.proofs.FunctionSchemaLemmas.{column_there}
 use Rattle.plan_lower.proofs.DropLemmas.{kept_at}
-use Rattle.plan_lower.proofs.RecordedLemmas.{column_there}
 use Rattle.plan_lower.proofs.conversion.drops.schema_without.Goals as goal
 use Rattle.plan_lower.proofs.conversion.drops.schema_without.Goals.{in-Some+in_ok-put_unless, in_default}
 

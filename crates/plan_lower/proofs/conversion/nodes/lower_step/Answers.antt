@@ -6,10 +6,7 @@ use Rattle.plan_lower.proofs.AddedLemmas.{plainly_lowers}
 use Rattle.plan_lower.proofs.conversion.nodes.lower_step.Goals as goal
 
 pub returns-in-Function : goal.returns-in-Function
-returns-in-Function c =
-    let items = c.args.expr_arena.now in
-    let lowers = plainly_lowers (registry c.args.udfs.now) _ c.args.input items c.args.lp_arena.now c.lower_function.new.lp_arena c.lower_function.result (λ n columns at. at) c.lower_function.ensures in
-    subst (λ (s : Step). LowersStep (registry c.args.udfs.now) s c.args.input items items c.args.lp_arena.now c.lower_function.new.lp_arena c.lower_function.result) (sym c.in-Function.is) lowers
+returns-in-Function c = rw c.in-Function.is c.lower_function.ensures
 
 pub returns-in-Distinct : goal.returns-in-Distinct
 returns-in-Distinct c =

@@ -1,6 +1,7 @@
 use Rattle.std.proofs.Common.{◌<◌, length, sym, arith}
 use Rattle.plan_types.specs.Schemas.{columns}
-use Rattle.plan_lower.proofs.RecordedLemmas.{columns_more, column_there}
+use Rattle.plan_dsl.proofs.FunctionSchemaLemmas.{column_there}
+use Rattle.plan_lower.proofs.RecordedLemmas.{columns_more}
 use Rattle.plan_lower.proofs.conversion.nodes.schema_with.Goals as goal
 use Rattle.plan_lower.proofs.conversion.nodes.schema_with.Goals.{in-Some+in_ok-put_copy, in_default}
 

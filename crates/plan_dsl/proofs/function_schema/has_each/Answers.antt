@@ -1,8 +1,8 @@
 use Rattle.std.proofs.Common.{drop, ◌+◌, sym, ◌∙◌}
 use Rattle.plan_types.specs.Schemas.{columns}
 use Rattle.plan_types.proofs.ListLemmas.{item_left}
-use Rattle.plan_lower.proofs.DropLemmas.{names_end, names_more}
-use Rattle.plan_lower.proofs.conversion.drops.has_each.Goals as goal
+use Rattle.plan_dsl.proofs.FunctionSchemaLemmas.{names_end, names_more}
+use Rattle.plan_dsl.proofs.function_schema.has_each.Goals as goal
 
 pub returns-then-not-contains : goal.returns-then-not-contains
 returns-then-not-contains c =
