@@ -18,6 +18,8 @@ mod coercions;
 #[cfg(test)]
 mod conversions;
 #[cfg(test)]
+mod evaluations;
+#[cfg(test)]
 mod expansion;
 #[cfg(test)]
 mod expressions;
@@ -47,6 +49,8 @@ mod queries;
 mod refusals;
 #[cfg(test)]
 mod runs;
+#[cfg(test)]
+mod samples;
 #[cfg(test)]
 mod schemas;
 #[cfg(test)]

@@ -25,10 +25,10 @@ use std::process::Abort;
 // From this number on names are new: no schema here has so many columns.
 const NEW: usize = 1_000;
 
-// A function over named columns, by how many of them it has. New names of a rename, the name of a row index and those of an unpivot
-// go by their numbers.
+/// A function over named columns, by how many of them it has. New names of a rename, the name of a row index and those of an unpivot
+/// go by their numbers.
 #[derive(Clone, Copy)]
-enum Function {
+pub(crate) enum Function {
     Explode(usize),
     Rechunk,
     Rename(usize, usize, bool),
@@ -37,9 +37,9 @@ enum Function {
     Unpivot(usize, usize, Option<usize>, Option<usize>),
 }
 
-// Functions, each with how many columns the schema has that it is over, and how many what it makes has. Those of an explode are
-// lists, and those of an unnest structs without fields.
-fn functions() -> [(Function, usize, usize); 22] {
+/// Functions, each with how many columns the schema has that it is over, and how many what it makes has. Those of an explode are
+/// lists, and those of an unnest structs without fields.
+pub(crate) fn functions() -> [(Function, usize, usize); 22] {
     [
         (Function::Explode(1), 1, 1),
         (Function::Explode(2), 2, 2),
@@ -101,8 +101,8 @@ fn args_of(
     }
 }
 
-// The function of so many names.
-fn made(rt: &impl Abort, alloc: Global, function: Function) -> FunctionIR {
+/// The function of so many names.
+pub(crate) fn made(rt: &impl Abort, alloc: Global, function: Function) -> FunctionIR {
     match function {
         Function::Explode(count) => FunctionIR::Explode {
             columns: names_from(rt, alloc, 0, count),
@@ -126,8 +126,8 @@ fn made(rt: &impl Abort, alloc: Global, function: Function) -> FunctionIR {
     }
 }
 
-// What columns are of, so that the function may be over them.
-fn dtype_for(rt: &impl Abort, alloc: Global, function: Function) -> DataType {
+/// What columns are of, so that the function may be over them.
+pub(crate) fn dtype_for(rt: &impl Abort, alloc: Global, function: Function) -> DataType {
     match function {
         Function::Explode(_) => deep_type(rt, alloc, 1, &DataType::Int8),
         Function::Unnest(_) => struct_type(rt, alloc, 0, &DataType::Int8),

@@ -84,10 +84,25 @@ common_known None h = cc
 common_known (Some type) h =
     elim (is_known type) as (λ b. is_known type ≡ b → is_none (cond b (Some type) None) ≡ false → (Some type ≡ Some (unwrap_or (cond b (Some type) None) NullType)) × (is_known (unwrap_or (cond b (Some type) None) NullType) ≡ true)) [ true ↦ λ e k. (refl, e) | false ↦ λ e k. cc ] refl h
 
+some_there : (common : Option Ty) → is_none common ≡ false → common ≡ Some (unwrap_or common NullType)
+some_there None h = cc
+some_there (Some type) h = refl
+
 -- what is below a type of columns can be cast to it
 below_cast : (types : List Ty) (found : Ty) → is_known found ≡ true → AllByRecursion (λ type. is_below type found ≡ true) types → AllByRecursion (λ type. can_cast type found ≡ true) types
 below_cast [] found known h = tt
 below_cast (type ∷ types) found known h = (below_casts type found known h.0, below_cast types found known h.1)
+
+-- there is a common type, and the values that are put below each other can be cast to it
+pub values_cast : (schema : Columns) (on index : List Name) (variable value : Option Name) → unpivot_kinds schema on index variable value ≡ [] → let type = unwrap_or (value_type schema on index) NullType in (value_type schema on index ≡ Some type) × AllByRecursion (λ from. can_cast from type ≡ true) (types_of (columns_under schema (value_columns schema on index)))
+values_cast schema on index variable value none =
+    let types = types_of (columns_under schema (value_columns schema on index)) in
+    let type = unwrap_or (value_type schema on index) NullType in
+    let names = distinct_kinds (index ++ variable_name variable ∷ value_name value ∷ []) in
+    let front = kind_where (is_none (value_type schema on index)) SchemaMismatch in
+    let found = not_repeated (is_none (value_type schema on index)) SchemaMismatch (no_front front names (else_unbroken schema (on ++ index) (front ++ names) none)) in
+    let common = common_known (folded_type types) found in
+    (some_there (value_type schema on index) found, below_cast types type common.1 (folded_above types type common.0))
 
 -- ---- frames
 
@@ -95,18 +110,16 @@ keeps_own : (frame : Frame) (on index : List Name) (variable value : Option Name
 keeps_own frame on index variable value h none =
     let schema = frame.schema in
     let names = value_columns schema on index in
-    let types = types_of (columns_under schema names) in
     let type = unwrap_or (value_type schema on index) NullType in
     let others : Columns = (variable_name variable, TextType) ∷ (value_name value, type) ∷ [] in
     let own = index ++ names_of others in
     let front = kind_where (is_none (value_type schema on index)) SchemaMismatch in
     let kinds = else_unbroken schema (on ++ index) (front ++ distinct_kinds own) none in
-    let common = common_known (folded_type types) (not_repeated (is_none (value_type schema on index)) SchemaMismatch (no_front front (distinct_kinds own) kinds)) in
     record {
       schema_is = refl;
       frame_is = record {
         distinct = distinct_from_test (columns_under schema index ++ others) (ap repeats (names_under schema index others) ∙ not_repeated (repeats own) Duplicate (no_tail front (distinct_kinds own) kinds));
-        fitting = rows_fit schema index (variable_name variable) (value_name value) type names frame.rows (below_cast types type common.1 (folded_above types type common.0)) h.frame_is.fitting;
+        fitting = rows_fit schema index (variable_name variable) (value_name value) type names frame.rows (values_cast schema on index variable value none).1 h.frame_is.fitting;
         bare = has_a_column (columns_under schema index) (variable_name variable, TextType) ((value_name value, type) ∷ []) _;
       };
     }

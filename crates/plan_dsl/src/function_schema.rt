@@ -186,8 +186,8 @@ fn exploded_dtype<'a>(
     }
 }
 
-// The names, each once.
-fn names_in(alloc: Global, names: &[PlSmallStr]) -> Result<IndexSet<&PlSmallStr>, PlanError>
+/// The names, each once.
+pub fn names_in(alloc: Global, names: &[PlSmallStr]) -> Result<IndexSet<&PlSmallStr>, PlanError>
     ensures ok { IfOk result (λ set. (name : Name) → list_any (λ kept. same_name name kept.now) set.keys ≡ is_among name names.now) }
     ensures err { IfErr result (λ error. error ≡ no_memory) }
 {
@@ -239,8 +239,8 @@ fn renamed_fields(
     Ok(fields)
 }
 
-// The new name of each old one. Of two for one the later counts.
-fn new_names<'a>(
+/// The new name of each old one. Of two for one the later counts.
+pub fn new_names<'a>(
     alloc: Global,
     existing: &'a [PlSmallStr],
     new: &'a [PlSmallStr],
@@ -399,8 +399,12 @@ fn fields_under(
     Ok(fields)
 }
 
-// A copy of the name, or else the text.
-fn name_or(name: &Option<PlSmallStr>, text: &str, alloc: Global) -> Result<PlSmallStr, PlanError>
+/// A copy of the name, or else the text.
+pub fn name_or(
+    name: &Option<PlSmallStr>,
+    text: &str,
+    alloc: Global,
+) -> Result<PlSmallStr, PlanError>
     ensures ok { IfOk result (λ own. own ≡ unwrap_or name.now (chars text.now)) }
     ensures err { IfErr result (λ error. error ≡ no_memory) }
 {
@@ -410,8 +414,8 @@ fn name_or(name: &Option<PlSmallStr>, text: &str, alloc: Global) -> Result<PlSma
     }
 }
 
-// The common type of the values that an unpivot puts below each other, where there is one that columns have.
-fn value_dtype(
+/// The common type of the values that an unpivot puts below each other, where there is one that columns have.
+pub fn value_dtype(
     alloc: Global,
     on: &[PlSmallStr],
     index: &[PlSmallStr],

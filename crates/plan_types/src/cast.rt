@@ -346,8 +346,8 @@ fn rescaled(from: i128, target: i128, number: i128) -> i128
     (number * target).div_euclid(from)
 }
 
-// The number of an integer type with the same low bits.
-fn wrapped(number: i128, dtype: &DataType) -> i128
+/// The number of an integer type with the same low bits.
+pub fn wrapped(number: i128, dtype: &DataType) -> i128
     requires integer { is_integer (ty dtype.now) ≡ true }
     ensures { result ≡ wrapped (ty dtype.now) number }
 {

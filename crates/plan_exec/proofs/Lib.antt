@@ -1,0 +1,16 @@
+pub mod AnswerLemmas
+pub mod ColumnUnderLemmas
+pub mod CountLemmas
+pub mod ExplodeLemmas
+pub mod ExplodedLemmas
+pub mod ItemLemmas
+pub mod LaidLemmas
+pub mod MadeLemmas
+pub mod MovedLemmas
+pub mod PartedLemmas
+pub mod RepeatedLemmas
+pub mod RowNumberLemmas
+pub mod SoundLemmas
+pub mod UnnestLemmas
+pub mod UnpivotCallLemmas
+pub mod UnpivotLemmas

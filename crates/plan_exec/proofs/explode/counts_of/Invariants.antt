@@ -1,0 +1,7 @@
+use Rattle.std.proofs.Common.{◌≡◌, take}
+use Rattle.plan_types.specs.FrameFaults.{vals_of}
+use Rattle.plan_exec.specs.ColumnFunctions.{counts_in}
+use Rattle.plan_exec.proofs.explode.counts_of.Given as goal
+
+abbrev pub invariant-loop-row : goal.invariant-loop-row
+invariant-loop-row l = l.counts.items ≡ counts_in (take l.row (vals_of l.values))

@@ -1,0 +1,4 @@
+-- What the contracts of this crate cite.
+pub mod ColumnFunctions
+pub mod Evaluations
+pub mod LaidFrames
